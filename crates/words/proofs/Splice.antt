@@ -1,11 +1,11 @@
 -- The laws of `part` and `splice`, by the operation that they are about. Assumes nothing.
 use mathlib.Core.Path.{_≡_, refl, sym, ap, _∙_}
-use mathlib.Core.List.{List, [], _∷_, _++_, append-assoc}
+use mathlib.Core.List.{List, [], _∷_, _++_, append-assoc, append-nil}
 use Prim.Native.Nat.{ℕ, zero, suc, _+_, _-_, _≤_, _<_}
 use native.Mathlib.Nat.{zero-add, add-zero, sub-zero, suc-add}
 use native.Mathlib.Numerals.{add-one}
 use native.Mathlib.Omega.{arith}
-use lib.ListN.{length, set, take, drop, getD, length-append, length-take, length-drop, length-replicate, take-append-drop}
+use lib.ListN.{length, set, take, drop, getD, length-append, length-take, length-drop, length-replicate, take-append-drop, drop-of-length-le}
 use lib.Seq.{length-take-le, take-at, drop-at, take-append-le, take-append-add, drop-append-le, drop-append-add, take-take, drop-drop, getD-take, getD-drop, take-nil, take-all, take-suc, drop-cons, take-add, set-at, ext-getD, sets, sets-eq}
 use Rattle.words.specs.Bytes.{part, splice, zeros}
 
@@ -76,6 +76,11 @@ sets-splice vs xs at h = sets-eq vs xs at h ∙ append-assoc (take at xs) vs (dr
 -- one store
 pub set-splice : (xs : List ℕ) (i v : ℕ) → i < length xs → set xs i v ≡ splice xs i (v ∷ [])
 set-splice xs i v h = sets-splice (v ∷ []) xs i (omega arith)
+
+-- as long as the whole: nothing is left of it
+pub splice-whole : (xs ys : List ℕ) → length ys ≡ length xs → splice xs 0 ys ≡ ys
+unfolding splice
+splice-whole xs ys e = rw (zero-add, drop-of-length-le xs {i = length ys} (omega arith)) (append-nil ys)
 
 -- ---- splice: lengths, and what stands before and after
 

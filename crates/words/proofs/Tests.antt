@@ -9,10 +9,19 @@ use native.Mathlib.Omega.{arith}
 use mathlib.Core.List.{List, [], _∷_}
 use lib.ListN.{length, drop, getD, length-replicate, getD-replicate}
 use lib.Seq.{drop-cons}
-use lib.Dec.{eqb}
-use borrow.Author.Tests.{eq-eqb, ne-eqb, eqb-true}
+use lib.Dec.{eqb, ltb}
+use borrow.Author.Tests.{eq-eqb, ne-eqb, eqb-true, ltb-true, ltb-false}
 use Rattle.words.specs.Bytes.{zeros, same}
 use Rattle.words.specs.Tests.{all, allZero, every, everyAfter, Each}
+
+-- ---- by cases: a test comes out true or false; a number is below another or not
+
+pub byCases : {A : Type 0} (b : Bool) → (b ≡ true → A) → (b ≡ false → A) → A
+byCases true f g = f refl
+byCases false f g = g refl
+
+pub below-or : {A : Type 0} (a b : ℕ) → (a < b → A) → (b ≤ a → A) → A
+below-or a b f g = byCases (ltb a b) (λ e. f (ltb-true a b e)) (λ e. g (ltb-false a b e))
 
 -- ---- two tests
 
