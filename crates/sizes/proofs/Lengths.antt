@@ -1,16 +1,40 @@
 -- Lengths: items of a path follow each other without gaps and fill it; so do the buckets of a tree. Assumes nothing.
 use mathlib.Core.Path.{_≡_, refl, sym, ap, _∙_}
-use mathlib.Core.List.{List, [], _++_}
+use mathlib.Core.Bool.{Bool, true}
+use mathlib.Core.List.{List, [], _∷_, _++_}
 use Prim.Native.Nat.{ℕ, zero, suc, _+_, _*_, _-_, _%_, _^_, _≤_, _<_}
 use native.Mathlib.Nat.{mul-le-mul-right, mul-le-mul, suc-mul, zero-mul, zero-add, one-mul, mod-eq-of-lt, pow-le-pow-right}
 use native.Mathlib.Omega.{arith}
 use lib.ListN.{length, take}
-use borrow.Author.Tests.{lt-ltb, le-ltb}
+use lib.Dec.{leb}
+use borrow.Author.Tests.{lt-ltb, le-ltb, leb-true, le-leb}
 use Rattle.words.specs.Bytes.{part}
 use Rattle.words.proofs.Splice.{part-add, part-whole}
-use Rattle.words.proofs.Tests.{below-or}
+use Rattle.words.proofs.Tests.{below-or, each, every-of}
 use Rattle.sizes.specs.declared.Sizes.{Sizes}
-use Rattle.sizes.specs.Sizes.{InRange, leaves, leafLen, innerLen, itemLen, itemAt, pathLen, itemOf, mostPath, inners, treeAt, bucketLen, bucketCount, treeLen, bucketIn}
+use Rattle.sizes.specs.Sizes.{mostHeight, mostSlots, sizesGood, InRange, leaves, leafLen, innerLen, itemLen, itemAt, pathLen, itemOf, mostPath, inners, treeAt, bucketLen, bucketCount, treeLen, bucketIn}
+
+-- ---- sizes in range: the test is true exactly where each is
+
+abbrev sizeTests : Sizes → List Bool
+sizeTests s = leb 1 (s .height) ∷ leb (s .height) mostHeight ∷ leb 1 (s .slots) ∷ leb (s .slots) mostSlots ∷ []
+
+pub sizes-range : (s : Sizes) → sizesGood s ≡ true → InRange s
+sizes-range s h =
+    let e = each (sizeTests s) h in
+    record {
+      height-low = leb-true 1 (s .height) (e .0);
+      height-high = leb-true (s .height) mostHeight (e .1 .0);
+      slots-low = leb-true 1 (s .slots) (e .1 .1 .0);
+      slots-high = leb-true (s .slots) mostSlots (e .1 .1 .1 .0);
+    }
+
+pub range-sizes : (s : Sizes) → InRange s → sizesGood s ≡ true
+range-sizes s r =
+    every-of (sizeTests s) (
+      le-leb 1 (s .height) (r .height-low),
+      (le-leb (s .height) mostHeight (r .height-high), (le-leb 1 (s .slots) (r .slots-low), (le-leb (s .slots) mostSlots (r .slots-high), tt))),
+    )
 
 -- ---- numbers are small: what two factors of these sizes come to
 

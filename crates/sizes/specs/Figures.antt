@@ -2,11 +2,7 @@
 use Prim.Native.Nat.{ℕ}
 use mathlib.Core.Path.{_≡_, refl}
 use mathlib.Core.List.{List, [], _∷_, map}
-use Rattle.sizes.specs.declared.Sizes.{Sizes}
-use Rattle.sizes.specs.Sizes.{innerLen, leafLen, pathLen, mostPath, treeLen, deskLen, bucketAt}
-
-abbrev pub sized : ℕ → ℕ → Sizes
-sized l z = record { height = l; slots = z }
+use Rattle.sizes.specs.Sizes.{sized, innerLen, leafLen, pathLen, mostPath, treeLen, deskLen, bucketAt}
 
 -- the buckets of the path to a leaf in a tree of height l, at the levels named
 abbrev pub way : ℕ → ℕ → List ℕ → List ℕ

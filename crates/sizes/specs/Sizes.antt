@@ -7,6 +7,9 @@ use lib.Dec.{ltb, leb}
 use Rattle.words.specs.Bytes.{part}
 use Rattle.sizes.specs.declared.Sizes.{Sizes}
 
+abbrev pub sized : ℕ → ℕ → Sizes
+sized l z = record { height = l; slots = z }
+
 -- ---- the limits
 
 abbrev pub mostHeight : ℕ

@@ -1,0 +1,3 @@
+pub mod Checks
+pub mod Laws
+pub mod Turns

@@ -1,0 +1,17 @@
+-- `tree::sizes_of` meets its contract: two bytes, widened. Assumes nothing.
+use Rattle.sizes.specs.Sizes.{sized}
+use borrow.Author.Needs.{needs}
+use Rattle.tree.proofs.sizes_of.Statement.{statement}
+use Rattle.tree.proofs.sizes_of.Tie as tie
+
+wide-requires : tie.Need-wide-requires
+wide-requires c κs = search needs
+
+wide-requires-2 : tie.Need-wide-requires-2
+wide-requires-2 c κs = search needs
+
+returns : tie.Need-returns
+returns c = cc
+
+pub sizes-of-spec : {M : Type 1} → statement M
+sizes-of-spec = tie.close (tie.spec wide-requires wide-requires-2 returns)
