@@ -30,9 +30,9 @@ fn copy_out(tree: &[u8], s: Sizes, leaf: usize, path: &mut [u8])
     requires { ⌜ Fits s leaf (now tree) (now path) ⌝ }
     ensures { λ _. ⌜ now (path .exit) ≡ fetched s leaf (now (tree .entry)) (suc (s .height)) ⌝ }
 {
-    let end = s.height + 1;
+    let items = s.height + 1;
     let mut k = 0;
-    while k < end {
+    while k < items {
         let from = s.in_tree(leaf, k);
         let to = from + s.item_len(k);
         words::copy(path, s.item_at(k), &tree[from..to]);

@@ -13,13 +13,13 @@ use Rattle.tree.proofs.copy_out.Statement.{statement}
 use Rattle.tree.proofs.copy_out.Tie as tie
 
 abbrev Inv-loop : tie.InvT-loop
-Inv-loop tree s leaf path₀ end k₀ path k = ((k ≤ end) × (end ≡ s .height + 1)) × ((length path ≡ length path₀) × (path ≡ splice path₀ 0 (fetched s leaf tree k)))
+Inv-loop tree s leaf path₀ items k₀ path k = ((k ≤ items) × (items ≡ s .height + 1)) × ((length path ≡ length path₀) × (path ≡ splice path₀ 0 (fetched s leaf tree k)))
 
 abbrev μ-loop : tie.MeasureT-loop
-μ-loop tree s leaf path₀ end k₀ path k = end - k
+μ-loop tree s leaf path₀ items k₀ path k = items - k
 
-add-end : tie.Need-add-end Inv-loop μ-loop
-add-end c = search needs
+add-items : tie.Need-add-items Inv-loop μ-loop
+add-items c = search needs
 
 loop-holds : tie.Need-loop-holds Inv-loop μ-loop
 unfolding fetched
@@ -83,7 +83,7 @@ copy-out-spec =
     (tie.spec
     Inv-loop
     μ-loop
-    add-end
+    add-items
     loop-holds
     in-tree-requires
     item-len-requires
