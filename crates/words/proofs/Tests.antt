@@ -16,7 +16,7 @@ use Rattle.words.specs.Tests.{all, allZero, every, everyAfter, Each}
 
 -- ---- by cases: a test comes out true or false; a number is below another or not
 
-pub byCases : {A : Type 0} (b : Bool) → (b ≡ true → A) → (b ≡ false → A) → A
+pub byCases {ℓ} : {A : Type ℓ} (b : Bool) → (b ≡ true → A) → (b ≡ false → A) → A
 byCases true f g = f refl
 byCases false f g = g refl
 

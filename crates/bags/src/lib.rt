@@ -1,0 +1,1 @@
+// Lists as bags: definitions and laws only, in specs/ and proofs/. There is no code.
