@@ -1,0 +1,29 @@
+-- `desk::sizes_of` meets its contract: each field is what the definition says. Assumes nothing.
+use borrow.Author.Needs.{needs}
+use Rattle.desk.proofs.sizes_of.Statement.{statement}
+use Rattle.desk.proofs.sizes_of.Tie as tie
+
+shared-slice-read-wide : tie.Need-shared-slice-read-wide
+shared-slice-read-wide c = search needs
+
+wide-requires : tie.Need-wide-requires
+wide-requires c κs = search needs
+
+shared-slice-read-wide-2 : tie.Need-shared-slice-read-wide-2
+shared-slice-read-wide-2 c = search needs
+
+wide-requires-2 : tie.Need-wide-requires-2
+wide-requires-2 c κs = search needs
+
+returns : tie.Need-returns
+returns c = rw (c .before .before .wide .ensures .0, c .wide2 .ensures .0)
+
+pub sizes-of-spec : {M : Type 1} → statement M
+sizes-of-spec =
+    tie.close
+    (tie.spec
+    shared-slice-read-wide
+    wide-requires
+    shared-slice-read-wide-2
+    wide-requires-2
+    returns)

@@ -1,0 +1,6 @@
+pub mod Layout
+pub mod Status
+pub mod Numbers
+pub mod Readers
+pub mod Good
+pub mod Changes

@@ -1,0 +1,348 @@
+// The desk: its layout, and when it is good. What a desk says, what can be changed in one, and the conditions are defined in specs/;
+// the laws that callers cite are in proofs/.
+use sizes::Sizes;
+ghost use mathlib.Core.Path.{_≡_};
+ghost use Prim.Native.Nat.{_+_, _*_, _≤_, _<_};
+ghost use lib.ListN.{length};
+ghost use Rattle.words.specs.Bytes.{part, splice, same};
+ghost use Rattle.words.specs.Tests.{all};
+ghost use Rattle.sizes.specs.Sizes.{contentsLen, requestHead, placeLen, dLen, idsGood};
+ghost use Rattle.slots.specs.Slots.{slotBy};
+ghost use Rattle.desk.specs.Layout.{Small, bAt, cAt, dAt, eAt, slotAt, eLen, shapeLen, pair, pairLen, contents, shapeOf, markIn};
+ghost use Rattle.desk.specs.Readers.{sizesOf};
+ghost use Rattle.desk.specs.Good.{goodDesk, headGood, openGood, requestGood, placeGood, placesGood, slotAfter, slotGood, stashGood, bodiesGood};
+ghost use Rattle.desk.specs.Numbers.{kindOf};
+
+pub const PAIR: usize = 8;
+
+pub const CONTENTS: usize = 5 * PAIR;
+
+pub const A_LEN: usize = 8;
+
+pub const KEY: usize = 32;
+
+pub const B_LEN: usize = KEY + Sizes::DIGEST;
+
+pub const REQUEST_HEAD: usize = 8;
+
+pub const PLACE: usize = 3;
+
+pub const COUNT: usize = 2;
+
+// Body (a) and its fields, body (b) and its root digest.
+pub const A_AT: usize = CONTENTS;
+
+pub const HEIGHT: usize = A_AT;
+
+pub const SLOTS: usize = A_AT + 1;
+
+pub const ROOM: usize = A_AT + 2;
+
+pub const STATUS: usize = A_AT + 3;
+
+pub const WRITTEN: usize = A_AT + 4;
+
+pub const ZERO: usize = A_AT + 5;
+
+pub const IDS: usize = A_AT + 6;
+
+pub const B_AT: usize = A_AT + A_LEN;
+
+pub const ROOT: usize = B_AT + KEY;
+
+// In body (c), in a place of body (d), in a slot.
+pub const KIND_IN: usize = 0;
+
+pub const ZERO_IN: usize = 1;
+
+pub const ID_IN: usize = 2;
+
+pub const NEW_LEAF_IN: usize = 4;
+
+pub const ZEROS_IN: usize = 6;
+
+pub const MARK_IN: usize = 2;
+
+pub const LEAF_IN: usize = 2;
+
+// Statuses.
+pub const READY: u8 = 0;
+
+pub const OPEN: u8 = 1;
+
+pub const FORGED: u8 = 2;
+
+pub const WORN: u8 = 3;
+
+pub const FULL: u8 = 4;
+
+pub const FIRST_STOPPED: u8 = FORGED;
+
+pub const MOST_STATUS: u8 = FULL;
+
+pub enum Kind {
+    Read,
+    Write,
+}
+
+pub fn kind_number(k: Kind) -> u8
+    ensures { λ n. ⌜ n ≡ kindOf k ⌝ }
+{
+    match k {
+        Kind::Read => 0,
+        Kind::Write => 1,
+    }
+}
+
+// The lengths on which a desk's layout depends: of body (b), of a record, and the numbers of ids and of stash slots.
+pub struct Shape {
+    pub b: usize,
+    pub r: usize,
+    pub n: usize,
+    pub s: usize,
+}
+
+impl Shape {
+    pub fn c_at(self) -> usize
+        requires { ⌜ Small self ⌝ }
+        ensures { λ x. ⌜ x ≡ cAt self ⌝ }
+    {
+        B_AT + self.b
+    }
+
+    pub fn d_at(self) -> usize
+        requires { ⌜ Small self ⌝ }
+        ensures { λ x. ⌜ x ≡ dAt self ⌝ }
+    {
+        self.c_at() + (REQUEST_HEAD + self.r)
+    }
+
+    pub fn e_at(self) -> usize
+        requires { ⌜ Small self ⌝ }
+        ensures { λ x. ⌜ x ≡ eAt self ⌝ }
+    {
+        self.d_at() + PLACE * self.n
+    }
+
+    // Where slot `i` starts in body (e).
+    pub fn slot_at(self, i: usize) -> usize
+        requires { ⌜ Small self × (i ≤ 255) ⌝ }
+        ensures { λ x. ⌜ x ≡ slotAt self i ⌝ }
+    {
+        COUNT + (Sizes::SLOT_HEAD + self.r) * i
+    }
+
+    // The length of the whole desk.
+    pub fn len(self) -> usize
+        requires { ⌜ Small self ⌝ }
+        ensures { λ x. ⌜ x ≡ shapeLen self ⌝ }
+    {
+        self.e_at() + self.slot_at(self.s)
+    }
+}
+
+// The shape that a desk's own bytes name.
+pub fn shape_of(desk: &[u8]) -> Shape
+    requires { ⌜ bAt ≤ length (now desk) ⌝ }
+    ensures { λ x. ⌜ x ≡ shapeOf (now (desk .entry)) ⌝ }
+{
+    Shape {
+        b: B_LEN,
+        r: Sizes::RECORD,
+        n: words::get16(desk, IDS) as usize,
+        s: words::wide(desk[ROOM]),
+    }
+}
+
+// The sizes of the tree that a desk belongs to.
+pub fn sizes_of(desk: &[u8]) -> Sizes
+    requires { ⌜ bAt ≤ length (now desk) ⌝ }
+    ensures { λ x. ⌜ x ≡ sizesOf (now (desk .entry)) ⌝ }
+{
+    Sizes {
+        height: words::wide(desk[HEIGHT]),
+        slots: words::wide(desk[SLOTS]),
+    }
+}
+
+// Whether a number of ids is in range.
+pub fn ids_good(n: usize) -> bool
+    ensures { λ x. ⌜ x ≡ idsGood n ⌝ }
+{
+    (1 <= n) & (n <= Sizes::MOST_IDS)
+}
+
+// Writes the pair of one body into the contents.
+fn put_pair(dst: &mut [u8], at: usize, offset: usize, len: usize)
+    requires { ⌜ at + pairLen ≤ length (now dst) ⌝ }
+    ensures { λ _. ⌜ now (dst .exit) ≡ splice (now (dst .entry)) at (pair offset len) ⌝ }
+{
+    words::put_number(dst, at, 4, offset as u64);
+    words::put_number(dst, at + 4, 4, len as u64);
+}
+
+// Writes the computed contents.
+pub fn put_contents(dst: &mut [u8], h: Shape)
+    requires { ⌜ (contentsLen ≤ length (now dst)) × Small h ⌝ }
+    ensures { λ _. ⌜ now (dst .exit) ≡ splice (now (dst .entry)) 0 (contents h) ⌝ }
+{
+    put_pair(dst, 0, A_AT, A_LEN);
+    put_pair(dst, PAIR, B_AT, h.b);
+    put_pair(dst, 2 * PAIR, h.c_at(), REQUEST_HEAD + h.r);
+    put_pair(dst, 3 * PAIR, h.d_at(), PLACE * h.n);
+    put_pair(dst, 4 * PAIR, h.e_at(), h.slot_at(h.s));
+}
+
+// Whether the contents are the computed ones.
+fn contents_good(desk: &[u8], h: Shape) -> bool
+    requires { ⌜ (contentsLen ≤ length (now desk)) × Small h ⌝ }
+    ensures { λ x. ⌜ x ≡ same (part (now (desk .entry)) 0 contentsLen) (contents h) ⌝ }
+{
+    let mut due = [0u8; CONTENTS];
+    put_contents(&mut due, h);
+    words::same(&desk[..CONTENTS], &due)
+}
+
+// Whether body (a) is good.
+fn head_good(desk: &[u8]) -> bool
+    requires { ⌜ bAt ≤ length (now desk) ⌝ }
+    ensures { λ x. ⌜ x ≡ headGood (now (desk .entry)) ⌝ }
+{
+    sizes_of(desk).good()
+        & ids_good(words::get16(desk, IDS) as usize)
+        & (desk[STATUS] <= MOST_STATUS)
+        & (desk[WRITTEN] <= 1)
+        & (desk[ZERO] == 0)
+}
+
+// Whether body (c) is good at a status that is not 0.
+fn open_good(c: &[u8], most: usize, n: usize) -> bool
+    requires { ⌜ requestHead ≤ length (now c) ⌝ }
+    ensures { λ x. ⌜ x ≡ openGood most n (now (c .entry)) ⌝ }
+{
+    let kind = c[KIND_IN];
+    let id = words::get16(c, ID_IN) as usize;
+    let leaf = words::get16(c, NEW_LEAF_IN) as usize;
+    let zeros = words::get16(c, ZEROS_IN);
+    let start = REQUEST_HEAD;
+    (kind <= 1)
+        & (c[ZERO_IN] == 0)
+        & (1 <= id)
+        & (id <= n)
+        & (leaf < most)
+        & (zeros == 0)
+        & ((kind == 1) | words::is_zero(&c[start..]))
+}
+
+// Whether body (c) is good.
+fn request_good(c: &[u8], status: u8, most: usize, n: usize) -> bool
+    requires { ⌜ requestHead ≤ length (now c) ⌝ }
+    ensures { λ x. ⌜ x ≡ requestGood status most n (now (c .entry)) ⌝ }
+{
+    if status == READY {
+        return words::is_zero(c);
+    }
+    open_good(c, most, n)
+}
+
+// Whether the place of number `i`, from 0 on, holds a leaf and a mark.
+fn place_good(d: &[u8], i: usize, most: usize) -> bool
+    requires { ⌜ placeLen * i + markIn < length (now d) ⌝ }
+    ensures { λ x. ⌜ x ≡ placeGood most (now (d .entry)) i ⌝ }
+{
+    let at = PLACE * i;
+    ((words::get16(d, at) as usize) < most) & (d[at + MARK_IN] <= 1)
+}
+
+// Whether the first `n` places are good.
+fn places_good(d: &[u8], n: usize, most: usize) -> bool
+    requires { ⌜ dLen n ≤ length (now d) ⌝ }
+    ensures { λ x. ⌜ x ≡ placesGood most n (now (d .entry)) ⌝ }
+{
+    let mut i = 0;
+    while i < n {
+        if !place_good(d, i, most) {
+            return false;
+        }
+        i += 1;
+    }
+    true
+}
+
+// Whether slot `i` of the stash `e` is good, after one with id `last`.
+fn slot_good(d: &[u8], e: &[u8], h: Shape, i: usize, last: usize) -> bool
+    requires { ⌜ (dLen (h .n) ≤ length (now d)) × ((slotAt h i + slotBy (h .r) ≤ length (now e)) × (Small h × (i ≤ 255))) ⌝ }
+    ensures { λ x. ⌜ x ≡ slotAfter last h (now (d .entry)) (now (e .entry)) i ⌝ }
+{
+    let at = h.slot_at(i);
+    let id = words::get16(e, at) as usize;
+    if id <= last {
+        return false;
+    }
+    if h.n < id {
+        return false;
+    }
+    let place = PLACE * (id - 1);
+    (d[place + MARK_IN] == 1) & (words::get16(e, at + LEAF_IN) == words::get16(d, place))
+}
+
+// Whether the first `count` slots of the stash are good.
+fn slots_good(d: &[u8], e: &[u8], h: Shape, count: usize) -> bool
+    requires { ⌜ (dLen (h .n) ≤ length (now d)) × ((slotAt h count ≤ length (now e)) × (Small h × (count ≤ 255))) ⌝ }
+    ensures { λ x. ⌜ x ≡ all count (slotGood h (now (d .entry)) (now (e .entry))) ⌝ }
+{
+    let mut last = 0;
+    let mut i = 0;
+    while i < count {
+        if !slot_good(d, e, h, i, last) {
+            return false;
+        }
+        last = words::get16(e, h.slot_at(i)) as usize;
+        i += 1;
+    }
+    true
+}
+
+// Whether body (e) is good.
+fn stash_good(d: &[u8], e: &[u8], h: Shape) -> bool
+    requires { ⌜ (dLen (h .n) ≤ length (now d)) × ((length (now e) ≡ eLen h) × Small h) ⌝ }
+    ensures { λ x. ⌜ x ≡ stashGood h (now (d .entry)) (now (e .entry)) ⌝ }
+{
+    let count = words::get16(e, 0) as usize;
+    if h.s < count {
+        return false;
+    }
+    let end = h.slot_at(count);
+    slots_good(d, e, h, count) & words::is_zero(&e[end..])
+}
+
+// Whether the bodies (c), (d) and (e) are good.
+fn bodies_good(desk: &[u8], most: usize, h: Shape, status: u8) -> bool
+    requires { ⌜ (length (now desk) ≡ shapeLen h) × Small h ⌝ }
+    ensures { λ x. ⌜ x ≡ bodiesGood most h status (now (desk .entry)) ⌝ }
+{
+    let c_at = h.c_at();
+    let d_at = h.d_at();
+    let e_at = h.e_at();
+    let c = request_good(&desk[c_at..d_at], status, most, h.n);
+    let d = places_good(&desk[d_at..e_at], h.n, most);
+    let e = stash_good(&desk[d_at..e_at], &desk[e_at..], h);
+    c & d & e
+}
+
+// Whether a desk is good.
+pub fn good(desk: &[u8]) -> bool
+    ensures { λ x. ⌜ x ≡ goodDesk (now (desk .entry)) ⌝ }
+{
+    if desk.len() < B_AT {
+        return false;
+    }
+    if !head_good(desk) {
+        return false;
+    }
+    let h = shape_of(desk);
+    if desk.len() != h.len() {
+        return false;
+    }
+    contents_good(desk, h) & bodies_good(desk, sizes_of(desk).leaves(), h, desk[STATUS])
+}
