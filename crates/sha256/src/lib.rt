@@ -1,0 +1,24 @@
+// SHA-256 (FIPS 180-4) of a list of bytes, at once by `digest` or part by part by a `Hasher`. The standard's definitions are those of crate
+// sha2. The length field is the bit length modulo 2 ^ 64: the standard's wherever it speaks, which is below that. Assumes nothing.
+ghost use mathlib.Core.Path.{_≡_};
+ghost use Rattle.sha2.specs.Sha256.{sha256};
+
+pub mod padding;
+pub mod rounds;
+pub mod schedule;
+pub mod stream;
+
+pub use stream::Hasher;
+
+// Bytes of a block, words of a block, and rounds, of which the schedule has a word each.
+pub const BLOCK: usize = 64;
+
+pub const WORDS: usize = 16;
+
+pub const ROUNDS: usize = 64;
+
+pub fn digest(msg: &[u8]) -> [u8; 32]
+    ensures { λ r. ⌜ r ≡ sha256 (now (msg .entry)) ⌝ }
+{
+    Hasher::new().absorb(msg).finish()
+}

@@ -1,0 +1,55 @@
+// What follows the whole blocks of a message, section 5.1.1: the bytes left over and the padding, one block or two. And a hash value as bytes.
+ghost use mathlib.Core.Path.{_≡_};
+ghost use Prim.Native.Nat.{ℕ, _+_, _-_, _*_, _%_, _≤_, _<_};
+ghost use mathlib.Core.List.{List, _++_};
+ghost use lib.ListN.{length, take};
+ghost use Rattle.sha2.specs.Sha2.{allBytes, padding};
+ghost use Rattle.sha2.specs.Sha256.{v256};
+use crate::BLOCK;
+use words::copy;
+use words::put_big;
+
+// Bytes of a word and of the length field, and the bit 1 that comes first, in its byte.
+const WORD: usize = 4;
+
+const LENGTH: usize = 8;
+
+const ONE: u8 = 0x80;
+
+// How many blocks the last ones are, after `total` bytes.
+pub fn last_blocks(total: u64) -> usize
+    ensures { λ r. ⌜ 64 * r ≡ total % 64 + length (padding v256 total) ⌝ }
+    ensures { λ r. ⌜ r ≤ 2 ⌝ }
+{
+    if total % (BLOCK as u64) < ((BLOCK - LENGTH) as u64) {
+        1
+    } else {
+        2
+    }
+}
+
+// The last blocks, after `total` bytes of which `left` are left over.
+pub fn last(left: &[u8], total: u64) -> [u8; 128]
+    requires { ⌜ length (now left) ≡ total % 64 ⌝ }
+    ensures { λ r. ⌜ take (total % 64 + length (padding v256 total)) r ≡ now (left .entry) ++ padding v256 total ⌝ }
+{
+    let mut p = [0u8; 128];
+    copy(&mut p, 0, left);
+    p[left.len()] = ONE;
+    let n = last_blocks(total);
+    // a byte has eight bits, and bits past the 64th are left out
+    put_big(&mut p, BLOCK * n - LENGTH, LENGTH, total << 3);
+    p
+}
+
+pub fn bytes_of(s: [u32; 8]) -> [u8; 32]
+    ensures { λ r. ⌜ r ≡ allBytes 4 s ⌝ }
+{
+    let mut d = [0u8; 32];
+    let mut i = 0;
+    while i < 8 {
+        put_big(&mut d, WORD * i, WORD, s[i] as u64);
+        i += 1;
+    }
+    d
+}
