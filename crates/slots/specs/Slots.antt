@@ -2,8 +2,10 @@
 -- Records have r bytes here; `blocksOf` is at the paper's length. Assumes nothing.
 use Prim.Native.Nat.{ℕ, zero, suc, _+_, _<_}
 use mathlib.Core.Path.{_≡_}
+use mathlib.Core.Bool.{Bool, not}
 use mathlib.Core.List.{List, [], _∷_, _++_}
 use lib.ListN.{length, drop, getD}
+use lib.Dec.{eqb}
 use Rattle.words.specs.Bytes.{part}
 use Rattle.words.specs.Numbers.{number, bytesOf}
 use Rattle.sizes.specs.Sizes.{recordLen, slotHead}
@@ -31,6 +33,10 @@ blocksBy r (suc n) xs = blockBy r xs ∷ blocksBy r n (drop (slotBy r) xs)
 
 abbrev pub blocksOf : ℕ → List ℕ → List Block
 blocksOf n xs = blocksBy recordLen n xs
+
+-- a slot is empty if its id is 0
+abbrev pub isUsed : Block → Bool
+isUsed b = not (eqb (b .id) 0)
 
 -- the slot of a block, and the slots of several
 abbrev pub slotBytes : Block → List ℕ
