@@ -1,0 +1,175 @@
+//! What a comparison reached. A run fails if anything listed here was not.
+
+use crate::check::Fault;
+use crate::found::Named;
+use crate::good::Flaw;
+use std::collections::BTreeMap;
+
+type Key = (&'static str, &'static str);
+
+const COPY: &[&str] = &["done", "BadSize", "BadLeaf", "BadLength"];
+const COPY_REASONS: &[&str] = &[
+    "BadSize by L alone",
+    "BadSize by Z alone",
+    "BadLength by tree alone",
+    "BadLength by path alone",
+];
+const STATUSES: &[&str] = &["stopped as forged", "stopped as worn", "stopped as full"];
+
+/// Everything that a whole run has to reach, by group.
+const EXPECTED: &[(&str, &[&str])] = &[
+    ("format", &["done", "BadSize", "BadLength", "BadLeaf"]),
+    (
+        "format, reason",
+        &[
+            "BadSize by L alone",
+            "BadSize by Z alone",
+            "BadSize by N alone",
+            "BadLength by desk alone",
+            "BadLength by leaves alone",
+            "BadLength by key alone",
+        ],
+    ),
+    (
+        "ask_read",
+        &["leaf", "BadDesk", "Stopped", "Open", "BadId", "BadLeaf"],
+    ),
+    (
+        "ask_write",
+        &[
+            "leaf",
+            "BadDesk",
+            "Stopped",
+            "Open",
+            "BadId",
+            "BadLeaf",
+            "BadLength",
+        ],
+    ),
+    (
+        "finish",
+        &[
+            "Record",
+            "Never",
+            "Done",
+            "BadDesk",
+            "Stopped",
+            "NotOpen",
+            "BadLength",
+            "Forged",
+            "Worn",
+            "Full",
+        ],
+    ),
+    (
+        "finish, reason",
+        &["BadLength by path alone", "BadLength by record alone"],
+    ),
+    ("fetch", COPY),
+    ("fetch, reason", COPY_REASONS),
+    ("put", COPY),
+    ("put, reason", COPY_REASONS),
+    (
+        "ask, id",
+        &["0 refused", "N+1 refused", "1 taken", "N taken"],
+    ),
+    ("ask, leaf", &["2^L refused", "2^L - 1 taken"]),
+    ("ask_read, status", STATUSES),
+    ("ask_write, status", STATUSES),
+    ("finish, status", STATUSES),
+    (
+        "finish, order",
+        &[
+            "Forged before Worn",
+            "Forged before Full",
+            "Worn before Full",
+        ],
+    ),
+    (
+        "finish, accepted with",
+        &[
+            "a root not written",
+            "an unreachable item of junk",
+            "counter 2^64 - 1 in an unreachable item",
+            "counter 2^64 - 2",
+            "counter 0",
+            "junk in an empty slot",
+            "junk in a digest behind flag 0",
+            "a full stash",
+            "slots out of order",
+            "the requested block on the path",
+            "the requested block in the stash",
+            "a block left over for the stash",
+        ],
+    ),
+    (
+        "server",
+        &[
+            "flipped byte of a path refused",
+            "flipped byte of a path never looked at",
+            "flipped byte of a desk refused",
+            "old path refused",
+            "path of another leaf refused",
+            "junk in a new tree",
+            "honest history until full",
+        ],
+    ),
+    (
+        "sizes",
+        &["L=1", "L=12", "Z=1", "Z=8", "S=0", "S=255", "N=1", "N=4096"],
+    ),
+    ("lengths", &["in range", "out of range"]),
+    ("digest and cipher", &["digest", "cipher"]),
+];
+
+/// Groups with one counter for each condition of a desk or check of a path.
+const BAD_DESKS: [&str; 3] = [
+    "ask_read, bad desk",
+    "ask_write, bad desk",
+    "finish, bad desk",
+];
+const FORGED: &str = "finish, forged alone by";
+
+pub struct Tally(BTreeMap<Key, u64>);
+
+impl Default for Tally {
+    fn default() -> Tally {
+        let mut counts = BTreeMap::new();
+        for (group, names) in EXPECTED {
+            counts.extend(names.iter().map(|name| ((*group, *name), 0)));
+        }
+        for group in BAD_DESKS {
+            counts.extend(Flaw::ALL.iter().map(|flaw| ((group, flaw.name()), 0)));
+        }
+        counts.extend(Fault::ALL.iter().map(|fault| ((FORGED, fault.name()), 0)));
+        Tally(counts)
+    }
+}
+
+impl Tally {
+    /// Counts one more. Only what is listed can be counted.
+    pub fn reach(&mut self, group: &'static str, name: &'static str) {
+        let count = self.0.get_mut(&(group, name));
+        *count.unwrap_or_else(|| panic!("no counter {group}: {name}")) += 1;
+    }
+
+    pub fn bad_desk(&mut self, entry: usize, flaw: Flaw) {
+        self.reach(BAD_DESKS[entry], flaw.name());
+    }
+
+    pub fn forged_alone(&mut self, fault: Fault) {
+        self.reach(FORGED, fault.name());
+    }
+
+    pub fn counts(&self) -> impl Iterator<Item = (Key, u64)> + '_ {
+        self.0.iter().map(|(key, count)| (*key, *count))
+    }
+
+    pub fn unreached(&self) -> Vec<Key> {
+        let counts = self.counts();
+        counts
+            .filter(|(_, count)| *count == 0)
+            .map(|(key, _)| key)
+            .collect()
+    }
+}

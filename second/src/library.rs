@@ -1,0 +1,134 @@
+//! The proved static library behind its C interface.
+
+use crate::format::Sizes;
+use crate::store::Store;
+
+extern "C" {
+    fn bawnaroy_format(
+        desk: *mut u8,
+        desk_len: usize,
+        height: u8,
+        slots: u8,
+        stash: u8,
+        ids: u16,
+        key: *const u8,
+        key_len: usize,
+        leaves: *const u16,
+        leaves_len: usize,
+    ) -> i32;
+    fn bawnaroy_ask_read(desk: *mut u8, desk_len: usize, id: u16, leaf: u16) -> i32;
+    fn bawnaroy_ask_write(
+        desk: *mut u8,
+        desk_len: usize,
+        id: u16,
+        leaf: u16,
+        record: *const u8,
+        record_len: usize,
+    ) -> i32;
+    fn bawnaroy_finish(
+        desk: *mut u8,
+        desk_len: usize,
+        path: *mut u8,
+        path_len: usize,
+        record: *mut u8,
+        record_len: usize,
+    ) -> i32;
+    fn bawnaroy_fetch(
+        tree: *const u8,
+        tree_len: usize,
+        height: u8,
+        slots: u8,
+        leaf: u16,
+        path: *mut u8,
+        path_len: usize,
+    ) -> i32;
+    fn bawnaroy_put(
+        tree: *mut u8,
+        tree_len: usize,
+        height: u8,
+        slots: u8,
+        leaf: u16,
+        path: *const u8,
+        path_len: usize,
+    ) -> i32;
+    fn bawnaroy_desk_length(ids: u16, stash: u8) -> usize;
+    fn bawnaroy_path_length(height: u8, slots: u8) -> usize;
+    fn bawnaroy_tree_length(height: u8, slots: u8) -> usize;
+    fn bawnaroy_sha256(msg: *const u8, len: usize, out: *mut u8);
+    fn bawnaroy_chacha20(key: *const u8, nonce: *const u8, text: *mut u8, len: usize);
+}
+
+/// The library. Every call below hands over whole slices with their own
+/// lengths, which is all that the C interface asks for.
+pub struct Library;
+
+impl Store for Library {
+    fn format(&self, desk: &mut [u8], sizes: Sizes, key: &[u8], leaves: &[u16]) -> i32 {
+        unsafe {
+            bawnaroy_format(
+                desk.as_mut_ptr(),
+                desk.len(),
+                sizes.height,
+                sizes.slots,
+                sizes.stash,
+                sizes.ids,
+                key.as_ptr(),
+                key.len(),
+                leaves.as_ptr(),
+                leaves.len(),
+            )
+        }
+    }
+
+    fn ask_read(&self, desk: &mut [u8], id: u16, leaf: u16) -> i32 {
+        unsafe { bawnaroy_ask_read(desk.as_mut_ptr(), desk.len(), id, leaf) }
+    }
+
+    fn ask_write(&self, desk: &mut [u8], id: u16, leaf: u16, record: &[u8]) -> i32 {
+        let (to, from) = (desk.as_mut_ptr(), record.as_ptr());
+        unsafe { bawnaroy_ask_write(to, desk.len(), id, leaf, from, record.len()) }
+    }
+
+    fn finish(&self, desk: &mut [u8], path: &mut [u8], record: &mut [u8]) -> i32 {
+        unsafe {
+            bawnaroy_finish(
+                desk.as_mut_ptr(),
+                desk.len(),
+                path.as_mut_ptr(),
+                path.len(),
+                record.as_mut_ptr(),
+                record.len(),
+            )
+        }
+    }
+
+    fn fetch(&self, tree: &[u8], height: u8, slots: u8, leaf: u16, path: &mut [u8]) -> i32 {
+        let (from, to) = (tree.as_ptr(), path.as_mut_ptr());
+        unsafe { bawnaroy_fetch(from, tree.len(), height, slots, leaf, to, path.len()) }
+    }
+
+    fn put(&self, tree: &mut [u8], height: u8, slots: u8, leaf: u16, path: &[u8]) -> i32 {
+        let (to, from) = (tree.as_mut_ptr(), path.as_ptr());
+        unsafe { bawnaroy_put(to, tree.len(), height, slots, leaf, from, path.len()) }
+    }
+
+    fn desk_length(&self, ids: u16, stash: u8) -> usize {
+        unsafe { bawnaroy_desk_length(ids, stash) }
+    }
+
+    fn path_length(&self, height: u8, slots: u8) -> usize {
+        unsafe { bawnaroy_path_length(height, slots) }
+    }
+
+    fn tree_length(&self, height: u8, slots: u8) -> usize {
+        unsafe { bawnaroy_tree_length(height, slots) }
+    }
+
+    fn sha256(&self, message: &[u8], out: &mut [u8; 32]) {
+        unsafe { bawnaroy_sha256(message.as_ptr(), message.len(), out.as_mut_ptr()) }
+    }
+
+    fn chacha20(&self, key: &[u8; 32], nonce: &[u8; 12], text: &mut [u8]) {
+        unsafe { bawnaroy_chacha20(key.as_ptr(), nonce.as_ptr(), text.as_mut_ptr(), text.len()) }
+    }
+}
