@@ -1,0 +1,2 @@
+pub mod ChaCha
+pub mod Lanes
