@@ -80,6 +80,16 @@ impl Sizes {
 
     pub const HEADER: usize = Self::COUNTER + Self::FLAGS + 2 * Self::DIGEST;
 
+    // The sizes that two bytes name, in range or not.
+    pub fn of(height: u8, slots: u8) -> Self
+        ensures { λ r. ⌜ r ≡ spec.sized height slots ⌝ }
+    {
+        Sizes {
+            height: words::wide(height),
+            slots: words::wide(slots),
+        }
+    }
+
     // Whether both are in range.
     pub fn good(self) -> bool
         ensures { λ r. ⌜ r ≡ spec.sizesGood self ⌝ }

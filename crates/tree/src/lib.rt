@@ -55,20 +55,10 @@ fn copy_in(tree: &mut [u8], s: Sizes, leaf: usize, path: &[u8])
     }
 }
 
-// The sizes that two bytes name, in range or not.
-fn sizes_of(height: u8, slots: u8) -> Sizes
-    ensures { λ r. ⌜ r ≡ sized height slots ⌝ }
-{
-    Sizes {
-        height: words::wide(height),
-        slots: words::wide(slots),
-    }
-}
-
 pub fn fetch(tree: &[u8], height: u8, slots: u8, leaf: u16, path: &mut [u8]) -> Outcome
     ensures { λ r. ⌜ result r (now (tree .entry)) (now (path .exit)) ≡ fetchOf (sized height slots) leaf (now (tree .entry)) (now (path .entry)) ⌝ }
 {
-    let s = sizes_of(height, slots);
+    let s = Sizes::of(height, slots);
     let l = leaf as usize;
     let checks = checked(tree, s, l, path);
     match checks {
@@ -83,7 +73,7 @@ pub fn fetch(tree: &[u8], height: u8, slots: u8, leaf: u16, path: &mut [u8]) -> 
 pub fn put(tree: &mut [u8], height: u8, slots: u8, leaf: u16, path: &[u8]) -> Outcome
     ensures { λ r. ⌜ result r (now (tree .exit)) (now (path .entry)) ≡ putOf (sized height slots) leaf (now (tree .entry)) (now (path .entry)) ⌝ }
 {
-    let s = sizes_of(height, slots);
+    let s = Sizes::of(height, slots);
     let l = leaf as usize;
     let checks = checked(tree, s, l, path);
     match checks {

@@ -1,0 +1,33 @@
+-- `exports::refused` meets its contract: the number is small, so that its negative fits. Assumes nothing.
+use mathlib.Core.Path.{_≡_, sym, ap, _∙_}
+use Prim.Native.Nat.{ℕ, _^_, _<_}
+use native.Mathlib.Omega.{arith}
+use lib.IntN.{ℤ, pos, negℤ}
+use mir.Syntax.{w32}
+use mir.Val.{SFits, toZ, ofZ}
+use Rattle.exports.specs.Codes.{refusalCode}
+use Rattle.exports.proofs.Signed.{minus-is, minus-fits, back}
+use borrow.Author.Needs.{needs}
+use Rattle.exports.proofs.refused.Statement.{statement}
+use Rattle.exports.proofs.refused.Tie as tie
+
+small : (c : tie.After-number) → c .number .result < 2 ^ 31
+small c = search needs
+
+number-requires : tie.Need-number-requires
+number-requires c κs = search needs
+
+cast-result : tie.Need-cast-result
+cast-result c = search needs
+
+sub-result : tie.Need-sub-result
+sub-result c = rw (minus-is (c .number .result) (small c)) (minus-fits (c .number .result) (small c))
+
+returns : tie.Need-returns
+unfolding refusalCode
+returns c =
+    let n = c .number .result in
+    ap (λ (z : ℤ). toZ w32 (ofZ w32 z)) (minus-is n (small c)) ∙ back (minus-fits n (small c)) ∙ ap (λ (n : ℕ). negℤ (pos n)) (c .number .ensures)
+
+pub refused-spec : {M : Type 1} → statement M
+refused-spec = tie.close (tie.spec number-requires cast-result sub-result returns)

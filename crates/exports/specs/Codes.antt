@@ -1,0 +1,29 @@
+-- The numbers that the C interface answers with. A refusal is its number, negative. Assumes nothing.
+use Prim.Native.Nat.{ℕ}
+use mathlib.Core.Path.{_≡_}
+use mathlib.Core.Bool.{cond}
+use mathlib.Core.List.{List}
+use lib.IntN.{ℤ, pos, negℤ}
+use Rattle.sizes.specs.declared.Refusal.{Refusal}
+use Rattle.sizes.specs.declared.Outcome.{Outcome}
+use Rattle.sizes.specs.declared.Outcome.the-variants.{Done, Refused}
+use Rattle.sizes.specs.Refusals.{numberOf}
+use Rattle.sizes.specs.declared.Sizes.{Sizes}
+use Rattle.sizes.specs.Sizes.{sizesGood}
+
+unfoldable pub refusalCode : Refusal → ℤ
+refusalCode r = negℤ (pos (numberOf r))
+
+-- format, fetch, put: 0 when done
+unfoldable pub outcomeCode : Outcome → ℤ
+outcomeCode Done = pos 0
+outcomeCode (Refused r) = refusalCode r
+
+-- a length that sizes give: 0 where a size is out of range
+unfoldable pub lengthBy : (Sizes → ℕ) → Sizes → ℕ
+lengthBy length s = cond (sizesGood s) (length s) 0
+
+-- a number answered, and what a lent buffer then holds
+pub record Answered (number : ℤ) (buffer : List ℕ) (due-number : ℤ) (due-buffer : List ℕ) : Type 0 where
+  pub number-is : number ≡ due-number
+  pub buffer-is : buffer ≡ due-buffer
