@@ -1,2 +1,5 @@
 pub mod Lengths
 pub mod Known
+pub mod Outside
+pub mod Changed
+pub mod Frame

@@ -4,3 +4,4 @@ pub mod Numbers
 pub mod Readers
 pub mod Good
 pub mod Changes
+pub mod View
