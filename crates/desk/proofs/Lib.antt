@@ -3,3 +3,10 @@ pub mod Known
 pub mod Outside
 pub mod Changed
 pub mod Frame
+pub mod Refused
+pub mod Read
+pub mod Places
+pub mod Stash
+pub mod Moved
+pub mod Request
+pub mod Exactly

@@ -1,5 +1,6 @@
 -- Where the parts of a desk stand: contents first, then five bodies without gaps. Offsets follow from the lengths, over any shape. Assumes nothing.
 use Prim.Native.Nat.{ℕ, _+_, _*_, _-_, _≤_}
+use mathlib.Core.Path.{_≡_}
 use mathlib.Core.List.{List, [], _∷_, _++_}
 use lib.ListN.{length, getD, drop}
 use Rattle.words.specs.Bytes.{part}
@@ -98,6 +99,11 @@ roomOf desk = getD desk roomAt 0
 -- the shape that a desk's own bytes name
 abbrev pub shapeOf : List ℕ → Shape
 shapeOf desk = record { b = bLen; r = recordLen; n = idsOf desk; s = roomOf desk }
+
+-- a desk with its own length, and lengths in range
+pub record Whole (desk : List ℕ) : Type 0 where
+  pub size : length desk ≡ shapeLen (shapeOf desk)
+  pub small : Small (shapeOf desk)
 
 -- ---- (b) key, root digest
 

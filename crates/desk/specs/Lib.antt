@@ -5,3 +5,4 @@ pub mod Readers
 pub mod Good
 pub mod Changes
 pub mod View
+pub mod Stash

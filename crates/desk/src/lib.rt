@@ -8,8 +8,8 @@ ghost use Rattle.words.specs.Bytes.{part, splice, same};
 ghost use Rattle.words.specs.Tests.{all};
 ghost use Rattle.sizes.specs.Sizes.{contentsLen, requestHead, placeLen, dLen, idsGood};
 ghost use Rattle.slots.specs.Slots.{slotBy};
-ghost use Rattle.desk.specs.Layout.{Small, bAt, cAt, dAt, eAt, slotAt, eLen, shapeLen, pair, pairLen, contents, shapeOf, markIn};
-ghost use Rattle.desk.specs.Readers.{sizesOf};
+ghost use Rattle.desk.specs.Layout.{Small, Whole, bAt, cAt, dAt, eAt, slotAt, eLen, shapeLen, pair, pairLen, contents, idsOf, shapeOf, markIn};
+ghost use Rattle.desk.specs.Readers.{sizesOf, positionOf};
 ghost use Rattle.desk.specs.Good.{goodDesk, headGood, openGood, requestGood, placeGood, placesGood, slotAfter, slotGood, stashGood, bodiesGood};
 ghost use Rattle.desk.specs.Numbers.{kindOf};
 
@@ -345,4 +345,12 @@ pub fn good(desk: &[u8]) -> bool
         return false;
     }
     contents_good(desk, h) & bodies_good(desk, sizes_of(desk).leaves(), h, desk[STATUS])
+}
+
+// The position of an id.
+pub fn position(desk: &[u8], id: usize) -> u16
+    requires { ⌜ Whole (now desk) × ((1 ≤ id) × (id ≤ idsOf (now desk))) ⌝ }
+    ensures { λ x. ⌜ x ≡ positionOf (now (desk .entry)) id ⌝ }
+{
+    words::get16(desk, shape_of(desk).d_at() + PLACE * (id - 1))
 }
