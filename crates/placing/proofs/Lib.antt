@@ -1,0 +1,3 @@
+pub mod Filling
+pub mod Rising
+pub mod Placing

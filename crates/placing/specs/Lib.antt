@@ -1,2 +1,4 @@
 pub mod Filling
 pub mod Placing
+pub mod Ids
+pub mod Figures
