@@ -8,7 +8,7 @@ use lib.ListN.{length, take, drop, length-append, length-take, length-drop, take
 use lib.Seq.{drop-append-le, take-all, take-add, length-take-le}
 use Rattle.words.specs.Bytes.{part, splice}
 use Rattle.words.proofs.Splice.{length-part}
-use Rattle.sha2.specs.Sha2.{compress, after, padding, allBytes, digest}
+use Rattle.sha2.specs.Sha2.{after, padding, allBytes, digest}
 use Rattle.sha2.specs.Sha256.{v256, H256, sha256}
 use Rattle.sha2.proofs.Blocks.{after-prefix, after-take, after-append}
 use Rattle.sha2.proofs.Bytes.{take-spliced}
@@ -26,11 +26,11 @@ wrap-64 a n p = omega arith
 
 -- ---- bytes put behind those left over, in a block that has room for them
 
-pub filled : (b x : List ℕ) (at k : ℕ) (r : List ℕ) → at ≡ k → at ≤ length b → r ≡ splice b at x → take (k + length x) r ≡ take k b ++ x
-filled b x at k r e h q = rw (q, ← e) (take-spliced b at x (at + length x) h refl)
+module _ (h : Hasher) (x block : List ℕ) (at total : ℕ) (place : at ≡ h .total % 64) (size : length (h .block) ≡ 64) (fits : h .total % 64 + length x ≤ 64)
+    (laid : block ≡ splice (h .block) at x) (counted : total ≡ (h .total + length x) % 2 ^ 64) where
+  put : take (h .total % 64 + length x) block ≡ take (h .total % 64) (h .block) ++ x
+  put = rw (laid, ← place) (take-spliced (h .block) at x (at + length x) (omega arith) refl)
 
-module _ (h : Hasher) (x block : List ℕ) (total : ℕ) (fits : h .total % 64 + length x ≤ 64)
-    (put : take (h .total % 64 + length x) block ≡ take (h .total % 64) (h .block) ++ x) (counted : total ≡ (h .total + length x) % 2 ^ 64) where
   module _ (bs : List ℕ) (held : Holds h bs) where
     at-is : h .total % 64 ≡ length bs % 64
     at-is = wrap-64 (h .total) (length bs) (held .count)
@@ -58,7 +58,7 @@ module _ (h : Hasher) (x block : List ℕ) (total : ℕ) (fits : h .total % 64 +
         let r : length (bs ++ x) % 64 ≡ length bs % 64 + length x = omega (arith, long) in
         record { hash = rw q (sym before); left = rw (q, r) left; count = count }
 
-    held-full : (state : List ℕ) → h .total % 64 + length x ≡ 64 → state ≡ compress v256 (h .state) (part block 0 64) → Holds (record { state = state; block = block; total = total }) (bs ++ x)
+    held-full : (state : List ℕ) → h .total % 64 + length x ≡ 64 → state ≡ after v256 (h .state) 1 block → Holds (record { state = state; block = block; total = total }) (bs ++ x)
     unfolding after
     held-full state is64 s =
         let e : length bs % 64 + length x ≡ 64 = rw at-is at is64 in
@@ -76,7 +76,7 @@ module _ (h : Hasher) (x block : List ℕ) (total : ℕ) (fits : h .total % 64 +
   pub grown-part : (h .total % 64 + length x ≡ 64 → ⊥) → Grown h x (record { state = h .state; block = block; total = total })
   grown-part no64 = record { holds = λ bs held. held-part bs held no64; total = counted }
 
-  pub grown-full : (state : List ℕ) → h .total % 64 + length x ≡ 64 → state ≡ compress v256 (h .state) (part block 0 64) → Grown h x (record { state = state; block = block; total = total })
+  pub grown-full : (state : List ℕ) → h .total % 64 + length x ≡ 64 → state ≡ after v256 (h .state) 1 block → Grown h x (record { state = state; block = block; total = total })
   grown-full state is64 s = record { holds = λ bs held. held-full bs held state is64 s; total = counted }
 
 -- ---- whole blocks, where none is begun

@@ -3,6 +3,7 @@ ghost use mathlib.Core.Path.{_≡_};
 ghost use Prim.Native.Nat.{ℕ, _+_, _-_, _*_, _%_, _≤_, _<_};
 ghost use mathlib.Core.List.{List, _++_};
 ghost use lib.ListN.{length, take};
+ghost use Rattle.words.specs.Bytes.{zeros};
 ghost use Rattle.sha2.specs.Sha2.{allBytes, padding};
 ghost use Rattle.sha2.specs.Sha256.{v256};
 use crate::BLOCK;
@@ -28,18 +29,18 @@ pub fn last_blocks(total: u64) -> usize
     }
 }
 
-// The last blocks, after `total` bytes of which `left` are left over.
-pub fn last(left: &[u8], total: u64) -> [u8; 128]
+// The last blocks, after `total` bytes of which `left` are left over, written over zeros.
+pub fn last(p: &mut [u8; 128], left: &[u8], total: u64)
+    requires { ⌜ now p ≡ zeros 128 ⌝ }
     requires { ⌜ length (now left) ≡ total % 64 ⌝ }
-    ensures { λ r. ⌜ take (total % 64 + length (padding v256 total)) r ≡ now (left .entry) ++ padding v256 total ⌝ }
+    ensures { λ _. ⌜ length (now (p .exit)) ≡ 128 ⌝ }
+    ensures { λ _. ⌜ take (total % 64 + length (padding v256 total)) (now (p .exit)) ≡ now (left .entry) ++ padding v256 total ⌝ }
 {
-    let mut p = [0u8; 128];
-    copy(&mut p, 0, left);
+    copy(p, 0, left);
     p[left.len()] = ONE;
     let n = last_blocks(total);
     // a byte has eight bits, and bits past the 64th are left out
-    put_big(&mut p, BLOCK * n - LENGTH, LENGTH, total << 3);
-    p
+    put_big(p, BLOCK * n - LENGTH, LENGTH, total << 3);
 }
 
 pub fn bytes_of(s: [u32; 8]) -> [u8; 32]

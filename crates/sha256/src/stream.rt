@@ -53,7 +53,8 @@ impl Hasher {
     {
         let at = begun(self.total);
         let block = self.block;
-        let p = last(&block[..at], self.total);
+        let mut p = [0u8; 128];
+        last(&mut p, &block[..at], self.total);
         let state = self.state;
         bytes_of(blocks(state, &p, last_blocks(self.total)))
     }
@@ -90,7 +91,7 @@ fn little(h: Hasher, part: &[u8]) -> Hasher
     copy(&mut block, at, part);
     let state = h.state;
     if at + part.len() == BLOCK {
-        let s = compress(state, &block, 0);
+        let s = blocks(state, &block, 1);
         return Hasher {
             state: s,
             block: block,
