@@ -3,10 +3,10 @@
 ghost use mathlib.Core.Path.{_≡_};
 ghost use Rattle.sha2.specs.Sha256.{sha256};
 
-pub mod padding;
-pub mod rounds;
-pub mod schedule;
-pub mod stream;
+mod padding;
+mod rounds;
+mod schedule;
+mod stream;
 
 pub use stream::Hasher;
 

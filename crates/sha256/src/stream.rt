@@ -16,9 +16,9 @@ use words::copy;
 
 // The hash value after the whole blocks so far, a block that begins with the bytes left over, and how many bytes in all, modulo 2 ^ 64.
 pub struct Hasher {
-    pub state: [u32; 8],
-    pub block: [u8; 64],
-    pub total: u64,
+    state: [u32; 8],
+    block: [u8; 64],
+    total: u64,
 }
 
 impl Hasher {
