@@ -1,0 +1,102 @@
+/*
+ * Bawnaroy: the verdict store, for C and whatever calls C (x86-64).
+ *
+ * The store has two sides. The desk is trusted: sizes, key, root digest, positions, stash, the open request.
+ * The tree is on the server. Between them go a leaf number and one path of bytes:
+ *
+ *     leaf = bawnaroy_ask_read(desk, ..);        trusted side: opens a request, says which leaf to ask for
+ *     bawnaroy_fetch(tree, .., leaf, path, ..);  server: copies the leaf's path out
+ *     answer = bawnaroy_finish(desk, path, ..);  trusted side: checks the path whole, answers, rewrites it
+ *     bawnaroy_put(tree, .., leaf, path, ..);    server: copies the path back
+ *
+ * Every function takes all inputs: forged desks and paths, any numbers, any lengths. A buffer is a pointer and a
+ * length in elements; with a length of 0 any pointer will do. Buffers of one call must not overlap. No function
+ * keeps a pointer, allocates, or reads or writes outside the buffers that it is lent. Calls on different buffers
+ * may run side by side; a desk, a tree or a path is used by one call at a time.
+ *
+ * Leaves are drawn outside: uniformly, afresh for each request, by a generator that nobody can predict.
+ */
+#ifndef BAWNAROY_H
+#define BAWNAROY_H
+
+#include <stddef.h>
+#include <stdint.h>
+
+#ifdef __cplusplus
+extern "C" {
+#endif
+
+/*
+ * Refusals: what each function answers instead, negative. The first that applies is given, in the order that the
+ * function names. A refusal changes no byte of any buffer; FORGED, WORN and FULL change one byte of the desk, its
+ * status, and from then on the desk answers STOPPED.
+ */
+#define BAWNAROY_BAD_DESK (-1)   /* not a good desk */
+#define BAWNAROY_STOPPED (-2)    /* the desk stopped as forged, worn or full */
+#define BAWNAROY_OPEN (-3)       /* asked while a request is open */
+#define BAWNAROY_NOT_OPEN (-4)   /* finished while none is */
+#define BAWNAROY_BAD_ID (-5)     /* id 0, or above the desk's number of ids */
+#define BAWNAROY_BAD_LEAF (-6)   /* a leaf of 2^height or more */
+#define BAWNAROY_BAD_LENGTH (-7) /* a buffer has another length than its exact one */
+#define BAWNAROY_BAD_SIZE (-8)   /* height, slots or ids out of range */
+#define BAWNAROY_FORGED (-9)     /* the path fails a check */
+#define BAWNAROY_WORN (-10)      /* an item's counter is at its end */
+#define BAWNAROY_FULL (-11)      /* more blocks remain than the stash has room for */
+
+/* What finish answers. 0 is none of them, so that memory nobody wrote is never a verdict. */
+#define BAWNAROY_RECORD 1 /* the id's record, in the record buffer */
+#define BAWNAROY_NEVER 2  /* the id was never written; the buffer is as it was */
+#define BAWNAROY_DONE 3   /* written; the buffer is as it was */
+
+#define BAWNAROY_RECORD_LENGTH 64
+
+/*
+ * Lengths in bytes; 0 where a size is out of range. Height is 1 to 12, slots 1 to 8, ids 1 to 4,096, stash 0 to 255.
+ */
+size_t bawnaroy_desk_length(uint16_t ids, uint8_t stash);
+size_t bawnaroy_path_length(uint8_t height, uint8_t slots);
+size_t bawnaroy_tree_length(uint8_t height, uint8_t slots);
+
+/*
+ * Makes a fresh desk: nothing written, no request open. key has 32 bytes, leaves has one starting leaf for each id,
+ * desk the length that bawnaroy_desk_length gives; what it held before does not matter, and neither does what the
+ * tree holds. Answers 0, or BAD_SIZE, BAD_LENGTH (desk, leaves, key), BAD_LEAF.
+ */
+int32_t bawnaroy_format(uint8_t *desk, size_t desk_len, uint8_t height, uint8_t slots, uint8_t stash, uint16_t ids,
+                        const uint8_t *key, size_t key_len, const uint16_t *leaves, size_t leaves_len);
+
+/*
+ * Opens a request to read an id, or to write its record (64 bytes), with a freshly drawn leaf, and answers the leaf
+ * to ask the server for (0 or more): the one last drawn for that id, not the new one. Writes the desk alone.
+ * Refusals: BAD_DESK, STOPPED, OPEN, BAD_ID, BAD_LEAF, and for a write BAD_LENGTH.
+ */
+int32_t bawnaroy_ask_read(uint8_t *desk, size_t desk_len, uint16_t id, uint16_t leaf);
+int32_t bawnaroy_ask_write(uint8_t *desk, size_t desk_len, uint16_t id, uint16_t leaf, const uint8_t *record,
+                           size_t record_len);
+
+/*
+ * Takes the path that the server handed back for the open request, checks it whole, and answers RECORD, NEVER or
+ * DONE. The path is then the one to put back; record (64 bytes) holds the record after RECORD and is untouched
+ * otherwise. Refusals: BAD_DESK, STOPPED, NOT_OPEN, BAD_LENGTH (path, record), FORGED, WORN, FULL.
+ */
+int32_t bawnaroy_finish(uint8_t *desk, size_t desk_len, uint8_t *path, size_t path_len, uint8_t *record,
+                        size_t record_len);
+
+/*
+ * The server's side. fetch copies the items of the leaf's path from tree to path, root first; put copies them back;
+ * all else stays. A new tree may hold anything. Answer 0, or BAD_SIZE (height, slots), BAD_LEAF, BAD_LENGTH (tree, path).
+ */
+int32_t bawnaroy_fetch(const uint8_t *tree, size_t tree_len, uint8_t height, uint8_t slots, uint16_t leaf,
+                       uint8_t *path, size_t path_len);
+int32_t bawnaroy_put(uint8_t *tree, size_t tree_len, uint8_t height, uint8_t slots, uint16_t leaf,
+                     const uint8_t *path, size_t path_len);
+
+/* SHA-256 of msg (FIPS 180-4), and text combined with the ChaCha20 keystream from block 0 on (RFC 8439), in place. */
+void bawnaroy_sha256(const uint8_t *msg, size_t len, uint8_t out[32]);
+void bawnaroy_chacha20(const uint8_t key[32], const uint8_t nonce[12], uint8_t *text, size_t len);
+
+#ifdef __cplusplus
+}
+#endif
+
+#endif
