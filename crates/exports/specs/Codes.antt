@@ -8,6 +8,8 @@ use Rattle.sizes.specs.declared.Refusal.{Refusal}
 use Rattle.sizes.specs.declared.Outcome.{Outcome}
 use Rattle.sizes.specs.declared.Outcome.the-variants.{Done, Refused}
 use Rattle.sizes.specs.Refusals.{numberOf}
+use Rattle.asks.specs.declared.Asked.{Asked}
+use Rattle.asks.specs.declared.Asked.the-variants as asked
 use Rattle.sizes.specs.declared.Sizes.{Sizes}
 use Rattle.sizes.specs.Sizes.{sizesGood}
 
@@ -18,6 +20,11 @@ refusalCode r = negℤ (pos (numberOf r))
 unfoldable pub outcomeCode : Outcome → ℤ
 outcomeCode Done = pos 0
 outcomeCode (Refused r) = refusalCode r
+
+-- ask: the leaf
+unfoldable pub askedCode : Asked → ℤ
+askedCode (asked.Leaf position) = pos position
+askedCode (asked.Refused r) = refusalCode r
 
 -- a length that sizes give: 0 where a size is out of range
 unfoldable pub lengthBy : (Sizes → ℕ) → Sizes → ℕ

@@ -1,13 +1,20 @@
 // The C interface: numbers and slices only. Every function takes all inputs; a refusal is its number, negative.
+use asks::Asked;
+use desk::Kind;
 use sizes::Outcome;
 use sizes::Refusal;
 use sizes::Sizes;
 ghost use mathlib.Core.Path.{_≡_};
+ghost use mathlib.Core.List.{[]};
+ghost use mir.Syntax.{w32};
+ghost use mir.Val.{SFits};
+ghost use Rattle.desk.specs.declared.Kind.the-variants.{Read, Write};
+ghost use Rattle.asks.specs.Ask.{askOf};
 ghost use Rattle.sizes.specs.Sizes.{sized, pathLen, treeLen};
 ghost use Rattle.sha2.specs.Sha256.{sha256};
 ghost use Rattle.chacha20.specs.ChaCha.{cipher};
 ghost use Rattle.tree.specs.Tree.{fetchOf, putOf};
-ghost use Rattle.exports.specs.Codes.{refusalCode, outcomeCode, lengthBy, Answered};
+ghost use Rattle.exports.specs.Codes.{refusalCode, outcomeCode, askedCode, lengthBy, Answered};
 
 // A refusal's number, negative.
 fn refused(r: Refusal) -> i32
@@ -22,6 +29,15 @@ fn done(o: Outcome) -> i32
     match o {
         Outcome::Done => 0,
         Outcome::Refused(r) => refused(r),
+    }
+}
+
+fn asked(a: Asked) -> i32
+    ensures { λ n. ⌜ (n ≡ askedCode a) × SFits w32 n ⌝ }
+{
+    match a {
+        Asked::Leaf(p) => p as i32,
+        Asked::Refused(r) => refused(r),
     }
 }
 
@@ -45,6 +61,21 @@ pub extern "C" fn bawnaroy_tree_length(height: u8, slots: u8) -> usize
         return 0;
     }
     s.tree_len()
+}
+
+// A read has no record; none is looked at.
+#[no_mangle]
+pub extern "C" fn bawnaroy_ask_read(desk: &mut [u8], id: u16, leaf: u16) -> i32
+    ensures { λ r. ⌜ Answered r (now (desk .exit)) (askedCode (askOf (now (desk .entry)) Read id leaf [] .answer)) (askOf (now (desk .entry)) Read id leaf [] .desk) ⌝ }
+{
+    asked(asks::ask(desk, Kind::Read, id, leaf, b""))
+}
+
+#[no_mangle]
+pub extern "C" fn bawnaroy_ask_write(desk: &mut [u8], id: u16, leaf: u16, record: &[u8]) -> i32
+    ensures { λ r. ⌜ Answered r (now (desk .exit)) (askedCode (askOf (now (desk .entry)) Write id leaf (now («record» .entry)) .answer)) (askOf (now (desk .entry)) Write id leaf (now («record» .entry)) .desk) ⌝ }
+{
+    asked(asks::ask(desk, Kind::Write, id, leaf, record))
 }
 
 #[no_mangle]
