@@ -34,11 +34,6 @@ pub words-more : (n : ℕ) (b w : List ℕ) (t x : ℕ) → t < length w → tak
 unfolding wordsOf
 words-more n b w t x h p q = rw (take-put w t x h, add-one, p, q)
 
-pub length-words : (n k : ℕ) (b : List ℕ) → length (wordsOf n k b) ≡ k
-unfolding wordsOf
-length-words n zero b = refl
-length-words n (suc k) b = length-append (wordsOf n k b) (bigNumber n b (n * k) ∷ []) ∙ rw (length-words n k b, add-one)
-
 -- ---- the next word
 
 next-is : (v : Sha2) (ws : List ℕ) (t : ℕ) → 16 ≤ t → t ≤ length ws → plus (v .bits)

@@ -10,12 +10,19 @@ mod stream;
 
 pub use stream::Hasher;
 
-// Bytes of a block, words of a block, and rounds, of which the schedule has a word each.
-pub const BLOCK: usize = 64;
+// Bytes of a word and of a block, words of a block and of a hash value.
+const WORD: usize = 4;
 
-pub const WORDS: usize = 16;
+const BLOCK: usize = 64;
 
-pub const ROUNDS: usize = 64;
+const WORDS: usize = 16;
+
+const STATE: usize = 8;
+
+// Rounds, of which the schedule has a word each, and how many of them are made in a turn.
+const ROUNDS: usize = 64;
+
+const TURN: usize = 4;
 
 pub fn digest(msg: &[u8]) -> [u8; 32]
     ensures { λ r. ⌜ r ≡ sha256 (now (msg .entry)) ⌝ }

@@ -7,12 +7,12 @@ ghost use Rattle.words.specs.Bytes.{zeros};
 ghost use Rattle.sha2.specs.Sha2.{allBytes, padding};
 ghost use Rattle.sha2.specs.Sha256.{v256};
 use crate::BLOCK;
+use crate::STATE;
+use crate::WORD;
 use words::copy;
 use words::put_big;
 
-// Bytes of a word and of the length field, and the bit 1 that comes first, in its byte.
-const WORD: usize = 4;
-
+// Bytes of the length field, and the bit 1 that comes first, in its byte.
 const LENGTH: usize = 8;
 
 const ONE: u8 = 0x80;
@@ -48,7 +48,7 @@ pub fn bytes_of(s: [u32; 8]) -> [u8; 32]
 {
     let mut d = [0u8; 32];
     let mut i = 0;
-    while i < 8 {
+    while i < STATE {
         put_big(&mut d, WORD * i, WORD, s[i] as u64);
         i += 1;
     }

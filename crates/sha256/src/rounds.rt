@@ -8,6 +8,7 @@ ghost use Rattle.words.specs.Bytes.{part};
 ghost use Rattle.sha2.specs.Sha2.{round, run, addAll, compress, extend};
 ghost use Rattle.sha2.specs.Sha256.{v256, K256};
 use crate::ROUNDS;
+use crate::TURN;
 use crate::schedule::load;
 use crate::schedule::more;
 use sha2::constants256::constants;
@@ -68,7 +69,7 @@ pub fn rounds(start: [u32; 8], w: &mut [u32; 64]) -> [u32; 8]
         more(w, t);
         let after = four(s, &k, w, t);
         s = after;
-        t += 4;
+        t += TURN;
     }
     s
 }

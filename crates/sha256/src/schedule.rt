@@ -7,6 +7,7 @@ ghost use Rattle.words.specs.Bytes.{part};
 ghost use Rattle.sha2.specs.Sha2.{wordsOf, next, Follows};
 ghost use Rattle.sha2.specs.Sha256.{v256};
 use crate::ROUNDS;
+use crate::WORD;
 use crate::WORDS;
 use sha2::functions32::add;
 use sha2::functions32::small0;
@@ -22,7 +23,7 @@ pub fn load(b: &[u8], at: usize, w: &mut [u32; 64])
 {
     let mut t = 0;
     while t < WORDS {
-        w[t] = get_big32(b, at + 4 * t);
+        w[t] = get_big32(b, at + WORD * t);
         t += 1;
     }
 }
