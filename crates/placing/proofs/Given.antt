@@ -5,7 +5,8 @@ use mathlib.Core.Bool.{Bool, true, false, _&&_}
 use mathlib.Core.List.{List, [], _∷_}
 use native.Mathlib.Omega.{arith}
 use native.Mathlib.Numerals.{add-one}
-use lib.ListN.{length, getD, getD-replicate, length-replicate}
+use lib.ListN.{length, drop, getD, getD-replicate, length-replicate, drop-of-length-le}
+use lib.Seq.{drop-cons}
 use lib.Dec.{eqb, ltb}
 use borrow.Author.Tests.{eqb-true, eqb-false, eq-eqb, ne-eqb}
 use Rattle.words.specs.Bytes.{zeros}
@@ -15,8 +16,11 @@ use Rattle.sizes.specs.Sizes.{mostHeight, bucketAt}
 use Rattle.slots.specs.Slots.{Block}
 use Rattle.placing.specs.Filling.{taken, left, buckets, rest}
 use Rattle.placing.specs.Placing.{onWay, levels, placedIn, remaining}
-use Rattle.placing.specs.Walk.{pick, from, passes, hasRoom, given, usedIn, mostHeights}
-use Rattle.placing.proofs.Walk.{taken-pick, left-from, from-zero, from-last, used-count}
+use Rattle.placing.specs.Walk.{seek, bump, free, heights, usedBy, pick, from, passes, hasRoom, given, usedIn, mostHeights}
+use Rattle.placing.specs.Bank.{leafAt, blockIn, blocksAt}
+use Rattle.placing.proofs.Ordered.{no-entry}
+use Rattle.placing.proofs.Laid.{leaf-in}
+use Rattle.placing.proofs.Walked.{taken-pick, left-from, from-zero, from-last, used-count}
 
 -- ---- leaves that have a bucket in common agree above it
 
@@ -112,3 +116,38 @@ module _ (s : Sizes) (leaf : ℕ) (low : s .height ≤ mostHeight) (bs : List Bl
       let e : getD (zeros mostHeights) (s .height + 1) 0 ≡ 0 = getD-replicate mostHeights (s .height + 1) 0 0 f in
       let u = used-count (passes s leaf) (s .slots) (s .height + 1) (s .height + 1) bs (zeros mostHeights) (rw length-replicate f) in
       omega (arith, u, ap length rest-given)
+
+-- ---- the loop over places in a bank: the next block, whose leaf is x, goes to height h
+
+module _ (s : Sizes) (leaf : ℕ) (bank used ps : List ℕ) (i : ℕ) (k : i < length ps) (x h : ℕ)
+    (e : x ≡ leafAt bank (getD ps i 0)) (f : h ≡ seek (hasRoom s leaf used x) (s .height + 1) 0) where
+  height-is : seek (free (passes s leaf) (s .slots) used (blockIn bank (getD ps i 0))) (s .height + 1) 0 ≡ h
+  height-is = ap (λ (y : ℕ). seek (hasRoom s leaf used y) (s .height + 1) 0) (leaf-in bank (getD ps i 0) ∙ sym e) ∙ sym f
+
+  next-is : blocksAt bank (drop i ps) ≡ blockIn bank (getD ps i 0) ∷ blocksAt bank (drop (i + 1) ps)
+  next-is = rw (drop-cons ps i 0 k, add-one i)
+
+  pub given-turn : given s leaf used (blocksAt bank (drop i ps)) ≡ h ∷ given s leaf (bump used h) (blocksAt bank (drop (i + 1) ps))
+  unfolding heights
+  given-turn =
+      ap (given s leaf used) next-is
+      ∙ ap (λ (y : ℕ). y ∷ given s leaf (bump used y) (blocksAt bank (drop (i + 1) ps))) height-is
+
+  pub used-turn : usedIn s leaf used (blocksAt bank (drop i ps)) ≡ usedIn s leaf (bump used h) (blocksAt bank (drop (i + 1) ps))
+  unfolding usedBy
+  used-turn =
+      ap (usedIn s leaf used) next-is
+      ∙ ap (λ (y : ℕ). usedIn s leaf (bump used y) (blocksAt bank (drop (i + 1) ps))) height-is
+
+module _ (s : Sizes) (leaf : ℕ) (bank used ps : List ℕ) (i : ℕ) (k : length ps ≤ i) where
+  pub given-end : given s leaf used (blocksAt bank (drop i ps)) ≡ []
+  unfolding heights
+  given-end = ap (λ (l : List ℕ). given s leaf used (blocksAt bank l)) (drop-of-length-le ps k)
+
+  pub used-end : usedIn s leaf used (blocksAt bank (drop i ps)) ≡ used
+  unfolding usedBy
+  used-end = ap (λ (l : List ℕ). usedIn s leaf used (blocksAt bank l)) (drop-of-length-le ps k)
+
+-- nothing is used at the start
+pub none-used : (m j : ℕ) → getD (zeros m) j 0 ≤ 0
+none-used m j = omega (arith, no-entry m j)

@@ -1,6 +1,8 @@
 pub mod Filling
 pub mod Rising
 pub mod Placing
-pub mod Walk
+pub mod Walked
 pub mod Given
-pub mod Order
+pub mod Ordered
+pub mod Laid
+pub mod Planned

@@ -4,3 +4,4 @@ pub mod Ids
 pub mod Figures
 pub mod Walk
 pub mod Order
+pub mod Bank

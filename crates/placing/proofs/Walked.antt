@@ -3,6 +3,7 @@ use Prim.Native.Nat.{ℕ, zero, suc, _+_, _-_, _≤_, _<_}
 use mathlib.Core.Path.{_≡_, refl, sym, ap, _∙_}
 use mathlib.Core.Bool.{Bool, true, false, _&&_, cond}
 use mathlib.Core.List.{List, [], _∷_}
+use native.Mathlib.Nat.{sub-zero}
 use native.Mathlib.Omega.{arith}
 use native.Mathlib.Numerals.{add-one}
 use lib.ListN.{length, getD, set, length-set}
@@ -39,7 +40,10 @@ module _ (f : ℕ → Bool) where
       byCases (eqb i h) (λ q. rw (← eqb-true i h q) p)
       (λ q. let ne : i ≡ h → ⊥ = eqb-false i h q in seek-before n (suc i) h (omega (arith, ne)) g))
 
-  -- a turn of the loop
+  -- the loop's start, a turn of it, its end
+  pub seek-start : (n : ℕ) → seek f n 0 ≡ seek f (n - 0) 0
+  seek-start n = ap (λ (m : ℕ). seek f m 0) (sym (sub-zero n))
+
   pub seek-hit : (n h : ℕ) → h < n → f h ≡ true → seek f (n - h) h ≡ h
   unfolding seek
   seek-hit n h k e = let q : n - h ≡ suc (n - suc h) = omega arith in rw (q, e)
