@@ -1,5 +1,6 @@
 -- One item: its fields, the digest taken of it, its slots opened and sealed. Digest and cipher are parameters. Assumes nothing.
-use Prim.Native.Nat.{ℕ, _+_, _*_, _-_}
+use Prim.Native.Nat.{ℕ, _+_, _*_, _-_, _≤_}
+use mathlib.Core.Path.{_≡_}
 use mathlib.Core.Bool.{cond}
 use mathlib.Core.List.{List, _++_}
 use lib.ListN.{length, getD, take}
@@ -7,7 +8,7 @@ use lib.Dec.{eqb, ltb}
 use Rattle.words.specs.Bytes.{part, zeros}
 use Rattle.words.specs.Numbers.{number, bytesOf}
 use Rattle.sizes.specs.declared.Sizes.{Sizes}
-use Rattle.sizes.specs.Sizes.{slotLen, counterLen, digestLen, slotsLen, flagAt, digestAt}
+use Rattle.sizes.specs.Sizes.{InRange, slotLen, counterLen, digestLen, slotsLen, pathLen, flagAt, digestAt}
 use Rattle.bags.specs.Bags.{those}
 use Rattle.slots.specs.Slots.{Block, isUsed, blocksOf, slotsBytes}
 
@@ -15,6 +16,17 @@ use Rattle.slots.specs.Slots.{Block, isUsed, blocksOf, slotsBytes}
 pub record Means : Type 0 where
   pub digest : List ℕ → List ℕ
   pub cipher : List ℕ → List ℕ → List ℕ → List ℕ
+
+-- what is asked of them
+pub record Sound (m : Means) : Type 0 where
+  pub digest-length : (xs : List ℕ) → length (m .digest xs) ≡ digestLen
+  pub cipher-length : (key nonce xs : List ℕ) → length (m .cipher key nonce xs) ≡ length xs
+  pub cipher-twice : (key nonce xs : List ℕ) → m .cipher key nonce (m .cipher key nonce xs) ≡ xs
+
+-- bytes that begin with a path of these sizes
+pub record Carries (s : Sizes) (xs : List ℕ) : Type 0 where
+  pub range : InRange s
+  pub room : pathLen s ≤ length xs
 
 -- ---- the fields of an item; side 0 is left, side 1 is right
 
