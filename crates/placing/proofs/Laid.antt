@@ -17,11 +17,10 @@ use Rattle.words.proofs.Tests.{byCases}
 use Rattle.sizes.specs.Sizes.{recordLen, slotLen}
 use Rattle.slots.specs.Slots.{Block, leafIn, blockBy, blocksOf, slotBytes, slotsBytes, Fits, AllFit, Bytes}
 use Rattle.slots.proofs.Blocks.{slot-block, block-fits, block-at, length-slot, length-slots, length-blocks}
-use Rattle.items.specs.Items.{slotsWith}
 use Rattle.placing.specs.Ids.{Placeable}
 use Rattle.placing.specs.Walk.{pick}
 use Rattle.placing.specs.Order.{noBlock, blockOf, blocksOn}
-use Rattle.placing.specs.Bank.{idAt, leafAt, blockIn, blocksAt, Inside}
+use Rattle.placing.specs.Bank.{idAt, leafAt, blockIn, blocksAt, Inside, slotsWith}
 use Rattle.placing.proofs.Ordered.{all-at}
 
 -- ---- the block of a slot

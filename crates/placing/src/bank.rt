@@ -6,9 +6,8 @@ ghost use lib.ListN.{length, drop};
 ghost use Rattle.words.specs.Bytes.{splice};
 ghost use Rattle.sizes.specs.Sizes.{recordLen, slotLen};
 ghost use Rattle.slots.specs.Slots.{blockBy, slotBytes, slotsBytes};
-ghost use Rattle.items.specs.Items.{slotsWith};
 ghost use Rattle.placing.specs.Walk.{pick};
-ghost use Rattle.placing.specs.Bank.{mostRoom, blocksAt, Inside};
+ghost use Rattle.placing.specs.Bank.{mostRoom, blocksAt, Inside, slotsWith};
 
 pub fn wide(x: u16) -> usize
     ensures { λ r. ⌜ (r ≡ x) × (r < 65536) ⌝ }
