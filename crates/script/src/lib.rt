@@ -1,0 +1,55 @@
+// The script of the program `shelf`, on slices: what its lines say, and the lines of the listing. specs/Lines.antt says what a line means,
+// specs/Listing.antt what is written. Assumes nothing.
+use desk::Kind;
+use sizes::Refusal;
+
+pub mod listing;
+pub mod reading;
+
+// A number of the script: its value, and how many digits it has.
+pub enum Number {
+    Is { value: u16, len: usize },
+    None,
+}
+
+// Numbers in a row: how many bytes they take.
+pub enum Taken {
+    All(usize),
+    Bad,
+}
+
+// A line of requests. The text stands from `text` up to the line's end.
+pub enum Line {
+    Request {
+        kind: Kind,
+        id: u16,
+        leaf: u16,
+        text: usize,
+    },
+    Bad,
+}
+
+// The first line: L, Z, S, N.
+pub enum First {
+    Store {
+        height: u8,
+        slots: u8,
+        room: u8,
+        ids: u16,
+    },
+    Bad,
+}
+
+// The leaf asked for.
+pub enum Shown {
+    Leaf(u16),
+    Nothing,
+}
+
+// What the listing says of a request.
+pub enum Answer {
+    Record,
+    Never,
+    Done,
+    Refused(Refusal),
+}
