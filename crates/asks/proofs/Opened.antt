@@ -1,14 +1,14 @@
 -- The desk that ask leaves: good, open, with the request in body (c) and all else as it was. Assumes nothing.
 use Prim.Native.Nat.{ℕ, _+_, _≤_, _<_}
-use mathlib.Core.Path.{_≡_, refl, sym, ap, _∙_}
-use mathlib.Core.Bool.{Bool, true, _||_}
+use mathlib.Core.Path.{_≡_, refl, ap, _∙_}
+use mathlib.Core.Bool.{true, _||_}
 use mathlib.Core.List.{List, [], _∷_, _++_, append-assoc}
 use native.Mathlib.Omega.{arith}
 use lib.ListN.{length, getD, drop, length-append}
 use lib.Seq.{drop-at}
 use lib.Dec.{eqb}
 use borrow.Author.Tests.{le-leb, lt-ltb, eqb-true}
-use Rattle.words.specs.Bytes.{part, zeros}
+use Rattle.words.specs.Bytes.{zeros}
 use Rattle.words.specs.Numbers.{number, bytesOf}
 use Rattle.words.specs.Tests.{allZero}
 use Rattle.words.proofs.Splice.{length-zeros, part-tail}
@@ -19,13 +19,12 @@ use Rattle.sizes.proofs.Lengths.{leaves-most}
 use Rattle.slots.proofs.Numbers.{number-left, number-right}
 use Rattle.desk.specs.declared.Kind.{Kind}
 use Rattle.desk.specs.declared.Kind.the-variants.{Read, Write}
-use Rattle.desk.specs.Layout.{cLen, idsOf, shapeOf, kindIn, idIn, newLeafIn, zerosIn}
-use Rattle.desk.specs.Readers.{sizesOf, statusOf, kindAsked, idAsked, newLeaf, recordAsked}
+use Rattle.desk.specs.Layout.{idsOf, shapeOf, kindIn, idIn, newLeafIn, zerosIn}
+use Rattle.desk.specs.Readers.{sizesOf, kindAsked, idAsked, newLeaf, recordAsked}
 use Rattle.desk.specs.Numbers.{kindOf, kindFrom}
-use Rattle.desk.specs.Status.{openStatus, atStatus}
-use Rattle.desk.specs.Changes.{withRequest}
+use Rattle.desk.specs.Status.{openStatus}
 use Rattle.desk.specs.Good.{goodDesk, openTests, openGood}
-use Rattle.desk.specs.View.{View, viewOf, toStatus, toRequest}
+use Rattle.desk.specs.View.{viewOf, toStatus, toRequest}
 use Rattle.desk.proofs.Request.{number-zeros}
 use Rattle.desk.proofs.Changed.{Changed, unchanged, status-changed, request-changed}
 use Rattle.desk.proofs.Frame.{good-sound, open-sound, changed-good}

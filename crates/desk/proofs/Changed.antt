@@ -1,21 +1,20 @@
 -- What a desk holds after changes: each change moves its own part, and every other part, the key and the sizes stay. Assumes nothing.
-use Prim.Native.Nat.{ℕ, suc, _+_, _*_, _-_, _≤_, _<_}
+use Prim.Native.Nat.{ℕ, _+_, _-_, _≤_, _<_}
 use mathlib.Core.Path.{_≡_, refl, sym, ap, subst, _∙_}
 use mathlib.Core.Logic.{_⊎_, inl, inr, ⊎-elim}
 use mathlib.Core.List.{List, [], _∷_, _++_}
-use native.Mathlib.Nat.{mul-le-mul-left}
 use native.Mathlib.Omega.{arith}
-use lib.ListN.{length, getD, set, take, drop, length-append}
+use lib.ListN.{length, getD, set, length-append}
 use lib.Seq.{getD-set-same}
 use Rattle.words.specs.Bytes.{part, splice}
-use Rattle.words.specs.Numbers.{number, bytesOf}
-use Rattle.words.proofs.Splice.{part-splice, length-splice}
+use Rattle.words.specs.Numbers.{bytesOf}
+use Rattle.words.proofs.Splice.{part-splice}
 use Rattle.words.proofs.Numbers.{length-bytesOf, number-ext}
 use Rattle.sizes.specs.Sizes.{keyLen, digestLen, placeLen}
 use Rattle.slots.specs.Slots.{Block}
 use Rattle.desk.specs.declared.Shape.{Shape}
 use Rattle.desk.specs.Layout.{bAt, cAt, cLen, dAt, eAt, eLen, shapeLen, bodyC, bodyD, bodyE, heightAt, slotsAt, roomAt, statusAt, writtenAt, zeroAt, idsAt, idsOf, roomOf, shapeOf, rootAt, placeAt}
-use Rattle.desk.specs.Readers.{sizesOf, heightOf, slotsIn, statusOf, writtenOf, keyOf, rootOf}
+use Rattle.desk.specs.Readers.{sizesOf, statusOf, writtenOf, keyOf, rootOf}
 use Rattle.desk.specs.Status.{atStatus}
 use Rattle.desk.specs.Changes.{withRequest, withPlace, withRoot, withStash, stashBytes}
 use Rattle.desk.specs.View.{View, viewOf, toStatus, toRequest, toPlace, toRoot, toStash}

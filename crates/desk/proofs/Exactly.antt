@@ -1,9 +1,9 @@
 -- The test says that a desk is good exactly where every condition of the paper holds. Assumes nothing.
-use Prim.Native.Nat.{ℕ, zero, suc, _+_, _*_, _-_, _≤_, _<_}
-use mathlib.Core.Path.{_≡_, refl, sym, ap, _∙_}
+use Prim.Native.Nat.{ℕ, zero, suc, _+_, _-_, _≤_, _<_}
+use mathlib.Core.Path.{_≡_, sym, ap, _∙_}
 use mathlib.Core.Logic.{_↔_}
-use mathlib.Core.Bool.{Bool, true}
-use mathlib.Core.List.{List, [], _∷_}
+use mathlib.Core.Bool.{true}
+use mathlib.Core.List.{List}
 use native.Mathlib.Omega.{arith}
 use lib.ListN.{length, getD, drop, length-drop}
 use lib.Seq.{getD-drop}
@@ -12,17 +12,17 @@ use borrow.Author.Tests.{lt-ltb, le-leb, eq-eqb, ltb-true, leb-true, eqb-true}
 use Rattle.words.specs.Bytes.{part, zeros}
 use Rattle.words.specs.Numbers.{number}
 use Rattle.words.specs.Tests.{Each, all, allZero}
-use Rattle.words.proofs.Splice.{length-part, part-tail}
+use Rattle.words.proofs.Splice.{length-part}
 use Rattle.words.proofs.Tests.{each, every-of, all-at, all-true}
-use Rattle.sizes.specs.Sizes.{leaves, requestHead, placeLen}
+use Rattle.sizes.specs.Sizes.{leaves, requestHead}
 use Rattle.slots.specs.Slots.{leafIn}
 use Rattle.slots.proofs.Blocks.{drop-part}
 use Rattle.desk.specs.declared.Shape.{Shape}
-use Rattle.desk.specs.Layout.{cAt, cLen, dAt, eAt, slotAt, shapeLen, bodyC, bodyD, bodyE, idsOf, roomOf, shapeOf, placeAt, markIn, zeroIn, zerosIn}
+use Rattle.desk.specs.Layout.{cAt, cLen, dAt, eAt, slotAt, shapeLen, bodyC, bodyD, bodyE, idsOf, shapeOf, placeAt, markIn, zeroIn, zerosIn}
 use Rattle.desk.specs.Readers.{sizesOf, statusOf, positionOf, markOf, recordAsked, stashCount, stashId, stashLeaf}
 use Rattle.desk.specs.Good.{Good, idAt, idBefore, slotAfter, slotGood, placeGood, placesGood, stashGood, goodDesk}
 use Rattle.desk.specs.View.{viewOf}
-use Rattle.desk.proofs.Known.{Known, known}
+use Rattle.desk.proofs.Known.{known}
 use Rattle.desk.proofs.Changed.{Changed, unchanged}
 use Rattle.desk.proofs.Frame.{good-of}
 use Rattle.desk.proofs.Read.{request-byte, request-number, read-kind, read-id, read-new-leaf, read-position, read-mark, read-count, read-stash-id, read-stash-leaf}

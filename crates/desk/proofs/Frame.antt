@@ -1,26 +1,25 @@
 -- A desk stays good where its new parts are sound: the contents and sizes are as they were. Assumes nothing.
-use Prim.Native.Nat.{ℕ, _+_, _*_, _-_, _≤_, _<_}
-use mathlib.Core.Path.{_≡_, refl, sym, ap, subst, _∙_}
-use mathlib.Core.Bool.{Bool, true, false, cond}
-use mathlib.Core.List.{List, [], _∷_, _++_}
+use Prim.Native.Nat.{ℕ, _-_, _≤_}
+use mathlib.Core.Path.{_≡_, sym, ap, subst, _∙_}
+use mathlib.Core.Bool.{true}
+use mathlib.Core.List.{List}
 use native.Mathlib.Omega.{arith}
-use lib.ListN.{length, getD}
-use lib.Dec.{leb, eqb}
+use lib.ListN.{length}
 use borrow.Author.Tests.{le-leb, eq-eqb, ne-eqb}
 use Rattle.words.specs.Bytes.{part, zeros, same}
 use Rattle.words.specs.Tests.{Each}
 use Rattle.words.proofs.Splice.{part-ext}
 use Rattle.words.proofs.Tests.{every-of, same-refl, zeros-zero}
 use Rattle.sizes.specs.declared.Sizes.{Sizes}
-use Rattle.sizes.specs.Sizes.{sizesGood, idsGood, leaves, contentsLen}
+use Rattle.sizes.specs.Sizes.{leaves, contentsLen}
 use Rattle.desk.specs.declared.Shape.{Shape}
-use Rattle.desk.specs.Layout.{bAt, cLen, shapeLen, contents, statusAt, zeroAt, idsOf, roomOf, shapeOf}
-use Rattle.desk.specs.Readers.{sizesOf, statusOf, writtenOf}
+use Rattle.desk.specs.Layout.{bAt, shapeLen, contents, zeroAt, idsOf, shapeOf}
+use Rattle.desk.specs.Readers.{sizesOf, statusOf}
 use Rattle.desk.specs.Status.{readyStatus, openStatus, mostStatus}
 use Rattle.desk.specs.Good.{headTests, headGood, openGood, requestGood, placesGood, stashGood, bodiesTests, bodiesGood, deskTests, goodDesk}
 use Rattle.desk.specs.View.{View, viewOf, toStatus, toRequest, toRoot}
 use Rattle.desk.proofs.Known.{Head, Known, known, sizes-good, ids-good}
-use Rattle.desk.proofs.Changed.{Same, Changed, same-ids, same-room, same-shape, same-sizes}
+use Rattle.desk.proofs.Changed.{Changed, same-ids, same-shape, same-sizes}
 
 -- parts that fit the sizes of a desk
 pub record Sound (desk : List ℕ) (v : View) : Type 0 where

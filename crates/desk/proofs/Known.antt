@@ -1,18 +1,18 @@
 -- What a good desk tells. Assumes nothing.
-use Prim.Native.Nat.{ℕ, _+_, _≤_, _<_}
-use mathlib.Core.Path.{_≡_, refl, sym, ap, _∙_}
-use mathlib.Core.Bool.{Bool, true, false}
+use Prim.Native.Nat.{ℕ, _≤_}
+use mathlib.Core.Path.{_≡_}
+use mathlib.Core.Bool.{Bool, true}
 use mathlib.Core.List.{List, [], _∷_}
 use lib.ListN.{length, getD}
 use lib.Dec.{leb}
 use borrow.Author.Tests.{leb-true, eqb-true, le-leb}
 use native.Mathlib.Omega.{arith}
-use Rattle.words.specs.Bytes.{part, same}
+use Rattle.words.specs.Bytes.{part}
 use Rattle.words.specs.Tests.{Each}
 use Rattle.words.proofs.Tests.{each, every-of, same-eq}
 use Rattle.sizes.specs.declared.Sizes.{Sizes}
 use Rattle.sizes.specs.Sizes.{mostHeight, mostSlots, mostIds, sizesGood, InRange, idsGood, leaves, contentsLen}
-use Rattle.desk.specs.Layout.{Small, bAt, contents, shapeLen, shapeOf, idsOf, roomOf, zeroAt}
+use Rattle.desk.specs.Layout.{Small, contents, shapeLen, shapeOf, idsOf, roomOf, zeroAt}
 use Rattle.desk.specs.Readers.{sizesOf, statusOf, writtenOf}
 use Rattle.desk.specs.Status.{mostStatus}
 use Rattle.desk.specs.Good.{headTests, headGood, bodiesTests, bodiesGood, deskTests, goodDesk}

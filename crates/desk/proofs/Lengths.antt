@@ -1,12 +1,11 @@
 -- Lengths and offsets in a desk: numbers are small, slots follow each other, and the contents are written pair by pair. Assumes nothing.
-use Prim.Native.Nat.{ℕ, suc, _+_, _*_, _-_, _≤_, _<_}
-use mathlib.Core.Path.{_≡_, refl, sym, ap, _∙_}
-use mathlib.Core.List.{List, [], _∷_, _++_}
+use Prim.Native.Nat.{ℕ, _+_, _*_, _-_, _≤_, _<_}
+use mathlib.Core.Path.{_≡_, ap, _∙_}
+use mathlib.Core.List.{List, _++_}
 use native.Mathlib.Omega.{arith}
 use native.Mathlib.Nat.{mul-le-mul, mul-le-mul-left, mul-suc}
 use lib.ListN.{length, drop, length-append}
 use Rattle.words.specs.Bytes.{part, splice}
-use Rattle.words.specs.Numbers.{bytesOf}
 use Rattle.words.proofs.Splice.{part-tail, splice-next}
 use Rattle.words.proofs.Numbers.{length-bytesOf}
 use Rattle.sizes.specs.Sizes.{contentsLen}

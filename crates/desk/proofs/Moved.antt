@@ -1,6 +1,5 @@
 -- One position and mark, and the stash, changed together: parts that stay sound. Assumes nothing.
 use Prim.Native.Nat.{ℕ, _≤_, _<_}
-use mathlib.Core.Path.{_≡_}
 use mathlib.Core.List.{List}
 use lib.ListN.{length}
 use Rattle.sizes.specs.Sizes.{leaves, dLen}

@@ -1,16 +1,16 @@
 -- What each field of a desk reads, from its parts. Assumes nothing.
-use Prim.Native.Nat.{ℕ, _+_, _*_, _-_, _≤_, _<_}
-use mathlib.Core.Path.{_≡_, refl, sym, ap, _∙_}
+use Prim.Native.Nat.{ℕ, _+_, _-_, _≤_, _<_}
+use mathlib.Core.Path.{_≡_, sym, ap, _∙_}
 use mathlib.Core.List.{List}
 use native.Mathlib.Omega.{arith}
-use lib.ListN.{length, getD, take, drop}
+use lib.ListN.{getD, drop}
 use lib.Seq.{drop-drop}
 use Rattle.words.specs.Bytes.{part}
 use Rattle.words.specs.Numbers.{number}
 use Rattle.words.proofs.Splice.{getD-part, part-part}
 use Rattle.words.proofs.Numbers.{number-part, number-drop}
 use Rattle.sizes.specs.Sizes.{requestHead, countLen}
-use Rattle.slots.specs.Slots.{Block, leafIn, blocksBy}
+use Rattle.slots.specs.Slots.{leafIn, blocksBy}
 use Rattle.desk.specs.declared.Shape.{Shape}
 use Rattle.desk.specs.Layout.{cAt, dAt, eAt, slotAt, idsOf, shapeOf, kindIn, idIn, newLeafIn, placeAt, markIn}
 use Rattle.desk.specs.Readers.{kindByte, idAsked, newLeaf, recordAsked, positionOf, markOf, stashCount, stashId, stashLeaf, stashOf}

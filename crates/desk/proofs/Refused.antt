@@ -1,12 +1,12 @@
 -- What a refusal leaves of a desk: nothing is changed where no row of an entry stops it. Assumes nothing.
 use Prim.Native.Nat.{ℕ}
-use mathlib.Core.Path.{_≡_, refl, sym, ap, _∙_}
+use mathlib.Core.Path.{_≡_}
 use mathlib.Core.Bool.{Bool, true, false, cond}
 use mathlib.Core.List.{List, [], _∷_}
 use native.Mathlib.Omega.{arith}
 use Rattle.sizes.specs.declared.Refusal.{Refusal}
 use Rattle.sizes.specs.declared.Outcome.{Outcome}
-use Rattle.sizes.specs.declared.Outcome.the-variants.{Done, Refused}
+use Rattle.sizes.specs.declared.Outcome.the-variants.{Refused}
 use Rattle.sizes.specs.Refusals.{firstOf}
 use Rattle.desk.specs.Status.{stopped}
 

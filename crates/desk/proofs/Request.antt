@@ -1,11 +1,10 @@
 -- Body (c): the test of it, and what it says one by one. Assumes nothing.
-use Prim.Native.Nat.{ℕ, zero, suc, _+_, _*_, _-_, _≤_, _<_}
+use Prim.Native.Nat.{ℕ, zero, suc, _+_, _-_, _≤_, _<_}
 use mathlib.Core.Path.{_≡_, refl, sym, ap, _∙_}
-use mathlib.Core.Bool.{Bool, true, false, cond, _||_}
-use mathlib.Core.Logic.{_⊎_, inl, inr, ⊎-elim}
-use mathlib.Core.List.{List, [], _∷_}
+use mathlib.Core.Bool.{Bool, true, false, _||_}
+use mathlib.Core.List.{List}
 use native.Mathlib.Omega.{arith}
-use lib.ListN.{length, getD, drop, length-replicate, getD-replicate, List·getD-eq-default}
+use lib.ListN.{length, getD, drop, getD-replicate, List·getD-eq-default}
 use lib.Seq.{ext-getD}
 use lib.Dec.{eqb}
 use borrow.Author.Tests.{lt-ltb, le-leb, eq-eqb, ne-eqb, ltb-true, leb-true, eqb-true, eqb-false}

@@ -1,11 +1,11 @@
 -- Where the parts of a desk stand: contents first, then five bodies without gaps. Offsets follow from the lengths, over any shape. Assumes nothing.
 use Prim.Native.Nat.{ℕ, _+_, _*_, _-_, _≤_}
 use mathlib.Core.Path.{_≡_}
-use mathlib.Core.List.{List, [], _∷_, _++_}
+use mathlib.Core.List.{List, _++_}
 use lib.ListN.{length, getD, drop}
 use Rattle.words.specs.Bytes.{part}
 use Rattle.words.specs.Numbers.{number, bytesOf}
-use Rattle.sizes.specs.Sizes.{mostIds, recordLen, slotHead, contentsLen, aLen, keyLen, bLen, requestHead, placeLen, dLen, countLen}
+use Rattle.sizes.specs.Sizes.{mostIds, recordLen, contentsLen, aLen, keyLen, bLen, requestHead, placeLen, dLen, countLen}
 use Rattle.slots.specs.Slots.{slotBy}
 use Rattle.desk.specs.declared.Shape.{Shape}
 

@@ -2,9 +2,11 @@
 // the laws that callers cite are in proofs/.
 use sizes::Sizes;
 ghost use mathlib.Core.Path.{_≡_};
+ghost use mathlib.Core.List.{[], _∷_, _++_};
 ghost use Prim.Native.Nat.{_+_, _*_, _≤_, _<_};
 ghost use lib.ListN.{length};
 ghost use Rattle.words.specs.Bytes.{part, splice, same};
+ghost use Rattle.words.specs.Numbers.{bytesOf};
 ghost use Rattle.words.specs.Tests.{all};
 ghost use Rattle.sizes.specs.Sizes.{contentsLen, requestHead, placeLen, dLen, idsGood};
 ghost use Rattle.slots.specs.Slots.{slotBy};
@@ -353,4 +355,13 @@ pub fn position(desk: &[u8], id: usize) -> u16
     ensures { λ x. ⌜ x ≡ positionOf (now (desk .entry)) id ⌝ }
 {
     words::get16(desk, shape_of(desk).d_at() + PLACE * (id - 1))
+}
+
+// Writes a position and a mark into the place that starts at `at`.
+pub fn put_place(dst: &mut [u8], at: usize, leaf: u16, mark: u8)
+    requires { ⌜ at + placeLen ≤ length (now dst) ⌝ }
+    ensures { λ _. ⌜ now (dst .exit) ≡ splice (now (dst .entry)) at (bytesOf 2 leaf ++ (mark ∷ [])) ⌝ }
+{
+    words::put16(dst, at, leaf);
+    dst[at + MARK_IN] = mark;
 }

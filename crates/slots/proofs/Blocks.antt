@@ -6,10 +6,10 @@ use native.Mathlib.Nat.{mul-suc, mul-le-mul-left, zero-add, suc-add, mul-zero}
 use native.Mathlib.Omega.{arith}
 use lib.ListN.{length, take, drop, getD, length-append, length-drop}
 use lib.Seq.{take-at, drop-at, drop-drop, getD-drop, take-add, take-nil}
-use Rattle.words.specs.Bytes.{part, splice}
+use Rattle.words.specs.Bytes.{part}
 use Rattle.words.specs.Numbers.{number, bytesOf}
-use Rattle.words.proofs.Splice.{part-part, part-add, part-left, part-right, part-whole, length-part}
-use Rattle.words.proofs.Numbers.{number-ext, number-part, number-drop, number-bytesOf, length-bytesOf}
+use Rattle.words.proofs.Splice.{part-part, part-add, part-right, length-part}
+use Rattle.words.proofs.Numbers.{number-part, number-drop, number-bytesOf, length-bytesOf}
 use Rattle.sizes.specs.Sizes.{slotHead}
 use Rattle.slots.specs.Slots.{Block, slotBy, leafIn, blockBy, blocksBy, slotBytes, slotsBytes, Fits, AllFit, Bytes}
 use Rattle.slots.proofs.Numbers.{number-small, bytesOf-number, number-left, number-right}

@@ -1,5 +1,5 @@
 -- `asks::ask` meets its contract: a refusal is answered as it came and changes nothing; else the position is read before the request is written. Assumes nothing.
-use mathlib.Core.Path.{_≡_, sym, _∙_}
+use mathlib.Core.Path.{sym, _∙_}
 use native.Mathlib.Omega.{arith}
 use Rattle.desk.specs.Layout.{Whole, roomAt}
 use Rattle.desk.proofs.Known.{good-small}

@@ -1,5 +1,4 @@
 -- `asks::open_request` meets its contract: the record stands right after the request's first bytes, and the status is set last. Assumes nothing.
-use Prim.Native.Nat.{ℕ}
 use mathlib.Core.Path.{_≡_, ap, _∙_}
 use native.Mathlib.Omega.{arith}
 use lib.ListN.{length-set}

@@ -1,5 +1,5 @@
 -- `desk::contents_good` meets its contract: the array holds the computed contents and nothing else. Assumes nothing.
-use mathlib.Core.Path.{_≡_, sym, ap, _∙_}
+use mathlib.Core.Path.{sym, ap, _∙_}
 use lib.ListN.{take}
 use lib.Seq.{length-take-le}
 use Rattle.words.specs.Bytes.{zeros, same}

@@ -1,5 +1,5 @@
 -- `desk::slots_good` meets its contract: the first i slots are good, and `last` is the id of the last of them. Assumes nothing.
-use Prim.Native.Nat.{ℕ, _+_, _≤_, _<_, _-_}
+use Prim.Native.Nat.{_+_, _≤_, _-_}
 use mathlib.Core.Path.{_≡_, refl, sym, _∙_}
 use mathlib.Core.Bool.{true}
 use native.Mathlib.Numerals.{add-one}

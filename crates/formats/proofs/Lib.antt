@@ -1,0 +1,3 @@
+pub mod Unmarked
+pub mod Passed
+pub mod Written
