@@ -12,13 +12,14 @@ use Rattle.words.proofs.Splice.{part-ext}
 use Rattle.words.proofs.Tests.{every-of, same-refl, zeros-zero}
 use Rattle.sizes.specs.declared.Sizes.{Sizes}
 use Rattle.sizes.specs.Sizes.{leaves, contentsLen}
+use Rattle.sizes.proofs.Lengths.{range-sizes}
 use Rattle.desk.specs.declared.Shape.{Shape}
 use Rattle.desk.specs.Layout.{bAt, shapeLen, contents, zeroAt, idsOf, shapeOf}
 use Rattle.desk.specs.Readers.{sizesOf, statusOf}
 use Rattle.desk.specs.Status.{readyStatus, openStatus, mostStatus}
 use Rattle.desk.specs.Good.{headTests, headGood, openGood, requestGood, placesGood, stashGood, bodiesTests, bodiesGood, deskTests, goodDesk}
 use Rattle.desk.specs.View.{View, viewOf, toStatus, toRequest, toRoot}
-use Rattle.desk.proofs.Known.{Head, Known, known, sizes-good, ids-good}
+use Rattle.desk.proofs.Known.{Head, Known, known, ids-good}
 use Rattle.desk.proofs.Changed.{Changed, same-ids, same-shape, same-sizes}
 
 -- parts that fit the sizes of a desk
@@ -49,7 +50,7 @@ good-of desk k =
       le-leb bAt (length desk) (omega (arith, k .size)),
       (
         every-of (headTests desk) (
-          sizes-good (sizesOf desk) (h .sizes),
+          range-sizes (sizesOf desk) (h .sizes),
           (ids-good (idsOf desk) (h .ids-low) (h .ids-high), (le-leb _ _ (h .status-high), (le-leb _ _ (h .written-high), (eq-eqb _ _ (h .zero), tt)))),
         ),
         (

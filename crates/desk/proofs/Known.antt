@@ -1,7 +1,7 @@
 -- What a good desk tells. Assumes nothing.
 use Prim.Native.Nat.{ℕ, _≤_}
 use mathlib.Core.Path.{_≡_}
-use mathlib.Core.Bool.{Bool, true}
+use mathlib.Core.Bool.{true}
 use mathlib.Core.List.{List, [], _∷_}
 use lib.ListN.{length, getD}
 use lib.Dec.{leb}
@@ -10,26 +10,15 @@ use native.Mathlib.Omega.{arith}
 use Rattle.words.specs.Bytes.{part}
 use Rattle.words.specs.Tests.{Each}
 use Rattle.words.proofs.Tests.{each, every-of, same-eq}
-use Rattle.sizes.specs.declared.Sizes.{Sizes}
-use Rattle.sizes.specs.Sizes.{mostHeight, mostSlots, mostIds, sizesGood, InRange, idsGood, leaves, contentsLen}
+use Rattle.sizes.specs.Sizes.{mostIds, InRange, idsGood, leaves, contentsLen}
+use Rattle.sizes.proofs.Lengths.{sizes-range}
 use Rattle.desk.specs.Layout.{Small, contents, shapeLen, shapeOf, idsOf, roomOf, zeroAt}
 use Rattle.desk.specs.Readers.{sizesOf, statusOf, writtenOf}
 use Rattle.desk.specs.Status.{mostStatus}
 use Rattle.desk.specs.Good.{headTests, headGood, bodiesTests, bodiesGood, deskTests, goodDesk}
 
--- sizes in range: the test and the record
+-- N in range: the test, and its two facts
 -- for sizes
-abbrev sizesTests : Sizes → List Bool
-sizesTests s = leb 1 (s .height) ∷ leb (s .height) mostHeight ∷ leb 1 (s .slots) ∷ leb (s .slots) mostSlots ∷ []
-
-pub sizes-known : (s : Sizes) → sizesGood s ≡ true → InRange s
-sizes-known s h =
-    let e : Each (sizesTests s) = each (sizesTests s) h in
-    record { height-low = leb-true _ _ (e .0); height-high = leb-true _ _ (e .1 .0); slots-low = leb-true _ _ (e .1 .1 .0); slots-high = leb-true _ _ (e .1 .1 .1 .0) }
-
-pub sizes-good : (s : Sizes) → InRange s → sizesGood s ≡ true
-sizes-good s r = every-of (sizesTests s) (le-leb _ _ (r .height-low), (le-leb _ _ (r .height-high), (le-leb _ _ (r .slots-low), (le-leb _ _ (r .slots-high), tt))))
-
 pub ids-known : (n : ℕ) → idsGood n ≡ true → (1 ≤ n) × (n ≤ mostIds)
 ids-known n h = let e = each (leb 1 n ∷ leb n mostIds ∷ []) h in (leb-true _ _ (e .0), leb-true _ _ (e .1 .0))
 
@@ -51,7 +40,7 @@ head-known desk h =
     let e : Each (headTests desk) = each (headTests desk) h in
     let n = ids-known (idsOf desk) (e .1 .0) in
     record {
-      sizes = sizes-known (sizesOf desk) (e .0);
+      sizes = sizes-range (sizesOf desk) (e .0);
       ids-low = n .0;
       ids-high = n .1;
       status-high = leb-true _ _ (e .1 .1 .0);

@@ -7,7 +7,7 @@ use lib.Dec.{eqb}
 use Rattle.words.specs.Bytes.{part}
 use Rattle.words.specs.Numbers.{number}
 use Rattle.sizes.specs.declared.Sizes.{Sizes}
-use Rattle.sizes.specs.Sizes.{keyLen, digestLen, requestHead, countLen}
+use Rattle.sizes.specs.Sizes.{sized, keyLen, digestLen, requestHead, countLen}
 use Rattle.slots.specs.Slots.{Block, leafIn, blocksBy}
 use Rattle.desk.specs.declared.Kind.{Kind}
 use Rattle.desk.specs.Layout.{bAt, cAt, dAt, eAt, slotAt, heightAt, slotsAt, statusAt, writtenAt, shapeOf, rootAt, kindIn, idIn, newLeafIn, placeAt, markIn}
@@ -22,7 +22,7 @@ abbrev pub slotsIn : List ℕ → ℕ
 slotsIn desk = getD desk slotsAt 0
 
 abbrev pub sizesOf : List ℕ → Sizes
-sizesOf desk = record { height = heightOf desk; slots = slotsIn desk }
+sizesOf desk = sized (heightOf desk) (slotsIn desk)
 
 abbrev pub statusOf : List ℕ → ℕ
 statusOf desk = getD desk statusAt 0

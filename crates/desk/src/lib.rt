@@ -161,10 +161,7 @@ pub fn sizes_of(desk: &[u8]) -> Sizes
     requires { ⌜ bAt ≤ length (now desk) ⌝ }
     ensures { λ x. ⌜ x ≡ sizesOf (now (desk .entry)) ⌝ }
 {
-    Sizes {
-        height: words::wide(desk[HEIGHT]),
-        slots: words::wide(desk[SLOTS]),
-    }
+    Sizes::of(desk[HEIGHT], desk[SLOTS])
 }
 
 // Whether a number of ids is in range.

@@ -1,5 +1,5 @@
 -- `formats::format` meets its contract: a refusal is answered as it came and changes nothing; else the desk is written whole. Assumes nothing.
-use mathlib.Core.Path.{_≡_, sym, _∙_}
+use mathlib.Core.Path.{sym, _∙_}
 use native.Mathlib.Omega.{arith}
 use Rattle.formats.proofs.Passed.{format-passed, format-spares}
 use borrow.Author.Needs.{needs}

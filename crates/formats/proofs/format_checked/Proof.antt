@@ -7,7 +7,7 @@ use borrow.Author.Tests.{not-true, not-false}
 use Rattle.words.proofs.Tests.{and-left, and-right}
 use Rattle.sizes.specs.Sizes.{sized, sizesGood, idsGood, leaves, deskLen}
 use Rattle.sizes.proofs.Lengths.{sizes-range}
-use Rattle.desk.specs.Layout.{Small, shapeLen}
+use Rattle.desk.specs.Layout.{shapeLen}
 use Rattle.desk.proofs.Known.{ids-known}
 use Rattle.formats.specs.Format.{areLeaves, formatChecked}
 use borrow.Author.Needs.{needs}
