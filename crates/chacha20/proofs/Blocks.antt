@@ -4,9 +4,10 @@ use mathlib.Core.List.{List, [], _∷_, _++_, append-assoc, append-nil}
 use Prim.Native.Nat.{ℕ, zero, suc, _+_, _-_, _*_, _/_, _%_, _^_, _≤_, _<_}
 use native.Mathlib.Nat.{zero-add, suc-add, add-zero, add-suc}
 use native.Mathlib.Omega.{arith}
-use lib.ListN.{length, set, drop, length-set, length-append}
+use lib.ListN.{length, drop, length-set, length-append}
 use lib.Seq.{drop-at}
-use Rattle.chacha20.specs.ChaCha.{add32, pick, put, quarter, quarterAt, columns, diagonals, inner, rounds, initial, zipped, serialize, block, blocks}
+use Rattle.words.specs.Numbers.{number}
+use Rattle.chacha20.specs.ChaCha.{add32, pick, put, quarter, quarterAt, columns, diagonals, inner, rounds, initial, zipped, block, blocks}
 use Rattle.chacha20.specs.declared.Quad.{Quad}
 use Rattle.chacha20.proofs.Zipped.{length-zipped}
 use Rattle.chacha20.proofs.Serial.{length-serialize}
@@ -25,6 +26,14 @@ pub length-rounds : (n : ℕ) (s : List ℕ) → length (rounds n s) ≡ length 
 unfolding rounds inner columns diagonals
 length-rounds zero s = refl
 length-rounds (suc n) s = simp length-quarterAt (length-rounds n s)
+
+-- word by word
+pub initial-is : (key nonce : List ℕ) {n a b c d e f g h i j k : ℕ} → a ≡ number 4 key 0 → b ≡ number 4 key 4 → c ≡ number 4 key 8 → d ≡ number 4 key 12
+    → e ≡ number 4 key 16 → f ≡ number 4 key 20 → g ≡ number 4 key 24 → h ≡ number 4 key 28
+    → i ≡ number 4 nonce 0 → j ≡ number 4 nonce 4 → k ≡ number 4 nonce 8
+    → 0x61707865 ∷ 0x3320646e ∷ 0x79622d32 ∷ 0x6b206574 ∷ a ∷ b ∷ c ∷ d ∷ e ∷ f ∷ g ∷ h ∷ n ∷ i ∷ j ∷ k ∷ [] ≡ initial key nonce n
+unfolding initial
+initial-is key nonce a b c d e f g h i j k = rw (a, b, c, d, e, f, g, h, i, j, k)
 
 pub length-initial : (key nonce : List ℕ) (n : ℕ) → length (initial key nonce n) ≡ 16
 unfolding initial
@@ -67,13 +76,13 @@ module _ (key nonce : List ℕ) where
   unfolding blocks
   blocks-one n h = let e : n % 2 ^ 32 ≡ n = omega arith in rw e (append-nil (block key nonce n))
 
-  -- the keystream from byte `at` on begins with five blocks from n on, where n is the number of the block there
-  pub blocks-from : (at n len : ℕ) → at % 64 ≡ 0 → at ≤ len → n % 2 ^ 32 ≡ at / 64 % 2 ^ 32
-      → drop at (blocks key nonce 0 (len / 64 + 6)) ≡ blocks key nonce n 5 ++ blocks key nonce (at / 64 + 5) (len / 64 + 1 - at / 64)
-  blocks-from at n len w h e =
+  -- from byte `at` on a run of c blocks and five goes on with five from n on, where n is the number of the block there
+  pub blocks-from : (at n c : ℕ) → at % 64 ≡ 0 → at / 64 ≤ c → n % 2 ^ 32 ≡ at / 64 % 2 ^ 32
+      → drop at (blocks key nonce 0 (c + 5)) ≡ blocks key nonce n 5 ++ blocks key nonce (at / 64 + 5) (c - at / 64)
+  blocks-from at n c w h e =
       let b = at / 64 in
-      let d = len / 64 + 1 - at / 64 in
-      let f : len / 64 + 6 ≡ b + (5 + d) = omega arith in
+      let d = c - at / 64 in
+      let f : c + 5 ≡ b + (5 + d) = omega arith in
       let g : b * 64 ≡ at = omega arith in
-      ap (λ (c : ℕ). drop at (blocks key nonce 0 c)) f ∙ ap (λ (i : ℕ). drop i (blocks key nonce 0 (b + (5 + d)))) (sym g)
+      ap (λ (i : ℕ). drop at (blocks key nonce 0 i)) f ∙ ap (λ (i : ℕ). drop i (blocks key nonce 0 (b + (5 + d)))) (sym g)
       ∙ blocks-drop 0 b (5 + d) ∙ rw zero-add (blocks-add b 5 d ∙ ap (λ (l : List ℕ). l ++ blocks key nonce (b + 5) d) (blocks-wrap b n 5 (sym e)))

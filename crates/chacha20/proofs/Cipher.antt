@@ -1,7 +1,7 @@
 -- The laws of `cipher`: it keeps the length and undoes itself, and what was combined so far. Assumes nothing.
 use mathlib.Core.Path.{_≡_, refl, sym, ap, _∙_}
 use mathlib.Core.List.{List, [], _∷_, _++_, append-assoc, append-nil}
-use Prim.Native.Nat.{ℕ, zero, suc, _+_, _*_, _/_, _%_, _^_, _≤_, _<_}
+use Prim.Native.Nat.{ℕ, zero, suc, _+_, _-_, _*_, _/_, _%_, _^_, _≤_, _<_}
 use native.Mathlib.Nat.{le-of-suc-le-suc, not-suc-le-zero}
 use native.Mathlib.Omega.{arith}
 use lib.ListN.{length, take, drop, length-take, drop-of-length-le}
@@ -10,7 +10,7 @@ use lib.Bits.{bitXor, differ, xor-step, xor-self, xor-zero-l}
 use lib.Arith.{bin-ind}
 use Rattle.chacha20.specs.ChaCha.{add32, zipped, block, blocks, cipher}
 use Rattle.chacha20.proofs.Zipped.{length-zipped, zipped-enough, take-zipped, drop-zipped}
-use Rattle.chacha20.proofs.Blocks.{length-block, length-blocks, blocks-wrap, blocks-add, blocks-one}
+use Rattle.chacha20.proofs.Blocks.{length-block, length-blocks, blocks-wrap, blocks-add, blocks-one, blocks-from}
 
 -- ---- what a caller needs: the length stays, and twice is nothing
 
@@ -84,25 +84,50 @@ mixed-step xs ks now ys k r at m e end fits enough small from so now-ys =
     now-ys ∙ rw d (sym (zipped-enough bitXor (take m (drop at xs)) k r p) ∙ rw (← from) (sym (take-zipped bitXor m (drop at xs) (drop at ks)) ∙ rw (← drop-zipped bitXor at xs ks))) in
     rw (t, d, y, ← end, take-add at m z, drop-drop m at xs) (simp append-assoc)
 
+-- ---- the whole text, five blocks at a time
+
+-- the first `at` bytes are enciphered
+abbrev pub ciphered : List ℕ → List ℕ → List ℕ → ℕ → List ℕ
+ciphered key nonce xs at = take at (cipher key nonce xs) ++ drop at xs
+
+pub cipher-step : (key nonce xs now ys : List ℕ) (at m e n : ℕ) → at + m ≡ e → e ≤ length xs → m ≤ 320 → at % 64 ≡ 0 → n % 2 ^ 32 ≡ at / 64 % 2 ^ 32
+    → now ≡ ciphered key nonce xs at → ys ≡ zipped bitXor (take m (drop at now)) (blocks key nonce n 5)
+    → take at now ++ (ys ++ drop m (drop at now)) ≡ ciphered key nonce xs e
+unfolding cipher
+cipher-step key nonce xs now ys at m e n end fits small whole number so now-ys =
+    let c = length xs / 64 + 1 in
+    let ks = blocks key nonce 0 (c + 5) in
+    let l : length ks ≡ (c + 5) * 64 = length-blocks key nonce 0 (c + 5) in
+    let f : zipped bitXor xs ks ≡ zipped bitXor xs (blocks key nonce 0 c) = mix-enough key nonce xs 0 c 5 (omega arith) in
+    mixed-step xs ks now ys (blocks key nonce n 5) (blocks key nonce (at / 64 + 5) (c - at / 64)) at m e end fits (omega arith)
+    (omega (arith, length-blocks key nonce n 5)) (blocks-from key nonce at n c whole (omega arith) number) (rw f so) now-ys
+    ∙ ap (λ (z : List ℕ). take e z ++ drop e xs) f
+
+pub cipher-end : (key nonce xs : List ℕ) (at : ℕ) → length xs ≤ at → ciphered key nonce xs at ≡ cipher key nonce xs
+unfolding cipher
+cipher-end key nonce xs at h =
+    mixed-all xs (blocks key nonce 0 (length xs / 64 + 1)) at h (omega (arith, length-blocks key nonce 0 (length xs / 64 + 1)))
+
 -- ---- two blocks, one after the other
 
 module _ (key nonce xs : List ℕ) (n : ℕ) (small : n < 2 ^ 32) where
-  pub one-mixed : (b ys : List ℕ) → length xs ≤ 64 → b ≡ block key nonce n → ys ≡ zipped bitXor xs b → ys ≡ zipped bitXor xs (blocks key nonce n 2)
-  one-mixed b ys h now-b now-ys = now-ys ∙ rw (now-b, ← blocks-one key nonce n small) (sym (mix-enough key nonce xs n 1 1 h))
+  pub one-mixed : length xs ≤ 64 → zipped bitXor xs (block key nonce n) ≡ zipped bitXor xs (blocks key nonce n 2)
+  one-mixed h = rw (← blocks-one key nonce n small) (sym (mix-enough key nonce xs n 1 1 h))
 
-  pub two-mixed : (b d ys zs : List ℕ) (m : ℕ) → 64 < length xs → length xs ≤ 128 → 64 + m ≡ length xs
-      → b ≡ block key nonce n → d ≡ block key nonce (add32 n 1) → ys ≡ zipped bitXor (take 64 xs) b → zs ≡ zipped bitXor (take m (drop 64 (ys ++ drop 64 xs))) d
+  pub two-mixed : (ys zs : List ℕ) (m : ℕ) → 64 < length xs → length xs ≤ 128 → 64 + m ≡ length xs
+      → ys ≡ zipped bitXor (take 64 xs) (block key nonce n) → zs ≡ zipped bitXor (take m (drop 64 (ys ++ drop 64 xs))) (block key nonce (add32 n 1))
       → take 64 (ys ++ drop 64 xs) ++ (zs ++ drop m (drop 64 (ys ++ drop 64 xs))) ≡ zipped bitXor xs (blocks key nonce n 2)
   unfolding add32
-  two-mixed b d ys zs m long short end now-b now-d now-ys now-zs =
+  two-mixed ys zs m long short end now-ys now-zs =
+      let i = (n + 1) % 2 ^ 32 in
+      let b = block key nonce n in
+      let d = block key nonce i in
       let ks = blocks key nonce n 2 in
       let l : length ks ≡ 128 = length-blocks key nonce n 2 in
-      let lb : length b ≡ 64 = ap length now-b ∙ length-block key nonce n in
-      let ld : length d ≡ 64 = ap length now-d ∙ length-block key nonce ((n + 1) % 2 ^ 32) in
-      let e1 : blocks key nonce n 1 ≡ b = blocks-one key nonce n small ∙ sym now-b in
-      let e2 : blocks key nonce (n + 1) 1 ≡ d =
-      blocks-wrap key nonce (n + 1) ((n + 1) % 2 ^ 32) 1 (omega arith) ∙ blocks-one key nonce ((n + 1) % 2 ^ 32) (omega arith) ∙ sym now-d in
-      let f : ks ≡ b ++ d = blocks-add key nonce n 1 1 ∙ rw (e1, e2) in
+      let lb : length b ≡ 64 = length-block key nonce n in
+      let ld : length d ≡ 64 = length-block key nonce i in
+      let e : blocks key nonce (n + 1) 1 ≡ d = blocks-wrap key nonce (n + 1) i 1 (omega arith) ∙ blocks-one key nonce i (omega arith) in
+      let f : ks ≡ b ++ d = blocks-add key nonce n 1 1 ∙ rw (blocks-one key nonce n small, e) in
       let g : drop 64 ks ≡ d ++ [] = rw f (drop-at b d 64 lb) ∙ sym (append-nil d) in
       mixed-step xs ks (ys ++ drop 64 xs) zs d [] 64 m (length xs) end (omega arith) (omega arith) (omega arith) g
       (mixed-step xs ks xs ys b d 0 64 64 refl (omega arith) (omega arith) (omega arith) f refl now-ys) now-zs

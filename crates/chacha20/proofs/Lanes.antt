@@ -1,9 +1,9 @@
 -- Four blocks side by side: each of the four comes out as it would by itself. Assumes nothing.
 use mathlib.Core.Path.{_≡_, refl, sym, ap, _∙_}
 use mathlib.Core.List.{List}
-use Prim.Native.Nat.{ℕ, zero, suc, _+_, _*_, _/_, _≤_, _<_}
+use Prim.Native.Nat.{ℕ, zero, suc, _+_, _*_, _/_, _<_}
 use native.Mathlib.Omega.{arith}
-use lib.ListN.{length, getD, set, length-set}
+use lib.ListN.{length, getD, length-set}
 use Rattle.chacha20.specs.ChaCha.{add32, pick, put, quarterAt, columns, diagonals, inner, rounds, initial, zipped}
 use Rattle.chacha20.specs.Lanes.{table, lane, swept, turned, turns, innerFour, roundsFour, spread, initialFour}
 use Rattle.chacha20.proofs.Zipped.{zipped-at}

@@ -5,7 +5,12 @@ ghost use lib.ListN.{length};
 ghost use Rattle.words.specs.Bytes.{splice};
 ghost use Rattle.chacha20.specs.ChaCha as spec;
 ghost use Rattle.chacha20.specs.Lanes.{lane};
+use crate::BLOCK;
 use crate::Quad;
+use crate::WORDS;
+
+// Column and diagonal rounds, ten of each.
+pub const BOTH: usize = 10;
 
 // a + b modulo 2^32.
 pub fn add(a: u32, b: u32) -> u32
@@ -55,7 +60,7 @@ pub fn quarter_at(s: &mut [u32], a: usize, b: usize, c: usize, d: usize)
     s[d] = q.d;
 }
 
-fn columns(s: &mut [u32; 16])
+fn columns(s: &mut [u32; WORDS])
     ensures { λ _. ⌜ now (s .exit) ≡ spec.columns (now (s .entry)) ⌝ }
 {
     quarter_at(s, 0, 4, 8, 12);
@@ -64,7 +69,7 @@ fn columns(s: &mut [u32; 16])
     quarter_at(s, 3, 7, 11, 15);
 }
 
-fn diagonals(s: &mut [u32; 16])
+fn diagonals(s: &mut [u32; WORDS])
     ensures { λ _. ⌜ now (s .exit) ≡ spec.diagonals (now (s .entry)) ⌝ }
 {
     quarter_at(s, 0, 5, 10, 15);
@@ -73,22 +78,22 @@ fn diagonals(s: &mut [u32; 16])
     quarter_at(s, 3, 4, 9, 14);
 }
 
-pub fn inner(s: &mut [u32; 16])
+pub fn inner(s: &mut [u32; WORDS])
     ensures { λ _. ⌜ now (s .exit) ≡ spec.inner (now (s .entry)) ⌝ }
 {
     columns(s);
     diagonals(s);
 }
 
-fn rounds(s: &mut [u32; 16])
+fn rounds(s: &mut [u32; WORDS])
     ensures { λ _. ⌜ now (s .exit) ≡ spec.rounds 10 (now (s .entry)) ⌝ }
 {
-    for n in 0usize..10 {
+    for n in 0..BOTH {
         inner(s);
     }
 }
 
-pub fn initial(key: &[u8; 32], nonce: &[u8; 12], n: u32) -> [u32; 16]
+pub fn initial(key: &[u8; 32], nonce: &[u8; 12], n: u32) -> [u32; WORDS]
     ensures { λ r. ⌜ r ≡ spec.initial (now (key .entry)) (now (nonce .entry)) n ⌝ }
 {
     [
@@ -128,19 +133,19 @@ pub fn serialize(out: &mut [u8], at: usize, s: &[u32], k: usize, step: usize)
     requires { ⌜ (at + 64 ≤ length (now out)) × ((k < step) × (16 * step ≤ length (now s))) ⌝ }
     ensures { λ _. ⌜ now (out .exit) ≡ splice (now (out .entry)) at (spec.serialize (lane step k (now (s .entry)))) ⌝ }
 {
-    for w in 0..16 {
+    for w in 0..WORDS {
         words::put32(out, at + w * 4, s[w * step + k]);
     }
 }
 
-pub fn block(key: &[u8; 32], nonce: &[u8; 12], n: u32) -> [u8; 64]
+pub fn block(key: &[u8; 32], nonce: &[u8; 12], n: u32) -> [u8; BLOCK]
     ensures { λ r. ⌜ r ≡ spec.block (now (key .entry)) (now (nonce .entry)) n ⌝ }
 {
     let s = initial(key, nonce, n);
     let mut t = s;
     rounds(&mut t);
     sums(&mut t, &s);
-    let mut out = [0u8; 64];
+    let mut out = [0u8; BLOCK];
     serialize(&mut out, 0, &t, 0, 1);
     out
 }

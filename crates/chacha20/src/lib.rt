@@ -9,6 +9,16 @@ ghost use Rattle.chacha20.specs.ChaCha as spec;
 mod block;
 mod five;
 
+// How many bytes a block has, and two of them, and five.
+const BLOCK: usize = 64;
+
+const TWO: usize = 128;
+
+const FIVE: usize = 320;
+
+// How many words the state has.
+const WORDS: usize = 16;
+
 // Four words of the state.
 pub struct Quad {
     pub a: u32,
@@ -29,32 +39,47 @@ fn mix(part: &mut [u8], ks: &[u8])
     }
 }
 
-// One block or two: five at once would cost more.
-fn short(key: &[u8; 32], nonce: &[u8; 12], n: u32, text: &mut [u8])
-    requires { ⌜ length (now text) ≤ 128 ⌝ }
-    ensures { λ _. ⌜ now (text .exit) ≡ spec.zipped bitXor (now (text .entry)) (spec.blocks (now (key .entry)) (now (nonce .entry)) n 2) ⌝ }
+// At most a block of bytes combined with block n.
+fn mix_block(key: &[u8; 32], nonce: &[u8; 12], n: u32, part: &mut [u8])
+    requires { ⌜ length (now part) ≤ 64 ⌝ }
+    ensures { λ _. ⌜ now (part .exit) ≡ spec.zipped bitXor (now (part .entry)) (spec.block (now (key .entry)) (now (nonce .entry)) n) ⌝ }
 {
     let ks = block::block(key, nonce, n);
-    if text.len() <= 64 {
-        mix(text, &ks);
-        return;
-    }
-    mix(&mut text[..64], &ks);
-    let more = block::block(key, nonce, block::add(n, 1));
-    mix(&mut text[64..], &more);
+    mix(part, &ks);
 }
 
-// What is left at the end, which five blocks are enough for.
-fn last(key: &[u8; 32], nonce: &[u8; 12], n: u32, text: &mut [u8])
-    requires { ⌜ length (now text) ≤ 320 ⌝ }
-    ensures { λ _. ⌜ now (text .exit) ≡ spec.zipped bitXor (now (text .entry)) (spec.blocks (now (key .entry)) (now (nonce .entry)) n 5) ⌝ }
+// At most five, from block n on.
+fn mix_five(key: &[u8; 32], nonce: &[u8; 12], n: u32, part: &mut [u8])
+    requires { ⌜ length (now part) ≤ 320 ⌝ }
+    ensures { λ _. ⌜ now (part .exit) ≡ spec.zipped bitXor (now (part .entry)) (spec.blocks (now (key .entry)) (now (nonce .entry)) n 5) ⌝ }
 {
-    if text.len() <= 128 {
-        short(key, nonce, n, text);
+    let ks = five::five(key, nonce, n);
+    mix(part, &ks);
+}
+
+// At most two: five at once would cost more.
+fn mix_two(key: &[u8; 32], nonce: &[u8; 12], n: u32, part: &mut [u8])
+    requires { ⌜ length (now part) ≤ 128 ⌝ }
+    ensures { λ _. ⌜ now (part .exit) ≡ spec.zipped bitXor (now (part .entry)) (spec.blocks (now (key .entry)) (now (nonce .entry)) n 2) ⌝ }
+{
+    if part.len() <= BLOCK {
+        mix_block(key, nonce, n, part);
         return;
     }
-    let ks = five::five(key, nonce, n);
-    mix(text, &ks);
+    mix_block(key, nonce, n, &mut part[..BLOCK]);
+    mix_block(key, nonce, block::add(n, 1), &mut part[BLOCK..]);
+}
+
+// What is left at the end of a text, at most five blocks.
+fn mix_last(key: &[u8; 32], nonce: &[u8; 12], n: u32, part: &mut [u8])
+    requires { ⌜ length (now part) ≤ 320 ⌝ }
+    ensures { λ _. ⌜ now (part .exit) ≡ spec.zipped bitXor (now (part .entry)) (spec.blocks (now (key .entry)) (now (nonce .entry)) n 5) ⌝ }
+{
+    if part.len() <= TWO {
+        mix_two(key, nonce, n, part);
+        return;
+    }
+    mix_five(key, nonce, n, part);
 }
 
 // The bytes of `text` combined with the keystream, in place: enciphered where they were plain, and deciphered where not.
@@ -63,12 +88,11 @@ pub fn apply(key: &[u8; 32], nonce: &[u8; 12], text: &mut [u8])
 {
     let mut at = 0;
     let mut n = 0u32;
-    while 320 <= text.len() - at {
-        let e = at + 320;
-        let ks = five::five(key, nonce, n);
-        mix(&mut text[at..e], &ks);
+    while FIVE < text.len() - at {
+        let e = at + FIVE;
+        mix_five(key, nonce, n, &mut text[at..e]);
         n = block::add(n, 5);
         at = e;
     }
-    last(key, nonce, n, &mut text[at..]);
+    mix_last(key, nonce, n, &mut text[at..]);
 }

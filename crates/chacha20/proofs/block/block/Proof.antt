@@ -43,11 +43,12 @@ unfolding block
 returns c =
     let sum = c .before .before .before .before .before .sums in
     let run = c .before .before .before .before .before .before .before .before .rounds in
-    let s = c .before .before .before .before .before .before .before .before .before .before .initial .result in
+    let start = c .before .before .before .before .before .before .before .before .before .before .initial in
+    let s = start .result in
     let l : length s ≡ 16 = search needs in
     let m : length (sum .last .0) ≡ 16 = sum .kept .0 ∙ ap length (run .ensures) ∙ length-rounds 10 s ∙ l in
-    let e : c .before .serialize .last .0 ≡ serialize (sum .last .0) = one-laid (zeros 64) (sum .last .0) (c .before .serialize .last .0) refl m (c .before .serialize .ensures) in
-    cc
+    one-laid (zeros 64) (sum .last .0) (c .before .serialize .last .0) refl m (c .before .serialize .ensures)
+    ∙ ap serialize (sum .ensures ∙ rw (run .ensures, start .ensures))
 
 pub block-spec : {M : Type 1} → statement M
 block-spec =

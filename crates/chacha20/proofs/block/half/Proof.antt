@@ -18,7 +18,7 @@ rotl-requires-2 c κs = search needs
 
 returns : tie.Need-returns
 unfolding half
-returns c = cc
+returns c = rw (c .rotl2 .ensures, c .before .before .add2 .ensures, c .before .before .before .rotl .ensures, c .before .before .before .before .before .add .ensures)
 
 pub half-spec : {M : Type 1} → statement M
 half-spec = tie.close (tie.spec add-requires rotl-requires add-requires-2 rotl-requires-2 returns)

@@ -1,5 +1,5 @@
 -- `chacha20::block::initial` meets its contract: word by word. Assumes nothing.
-use Rattle.chacha20.specs.ChaCha.{initial}
+use Rattle.chacha20.proofs.Blocks.{initial-is}
 use borrow.Author.Needs.{needs}
 use Rattle.chacha20.proofs.block.initial.Statement.{statement}
 use Rattle.chacha20.proofs.block.initial.Tie as tie
@@ -38,8 +38,9 @@ get32-requires-11 : tie.Need-get32-requires-11
 get32-requires-11 c κs = search needs
 
 returns : tie.Need-returns
-unfolding initial
-returns c = cc
+returns c =
+    let a = c .before .before .before .before .before .before .before .before .before .before .before .before .before .before .before .before .before .before .before .before .before .before .args in
+    initial-is (a .key .now) (a .nonce .now) (c .before .before .before .before .before .before .before .before .before .before .before .before .before .before .before .before .before .before .before .before .get32 .ensures) (c .before .before .before .before .before .before .before .before .before .before .before .before .before .before .before .before .before .before .get322 .ensures) (c .before .before .before .before .before .before .before .before .before .before .before .before .before .before .before .before .get323 .ensures) (c .before .before .before .before .before .before .before .before .before .before .before .before .before .before .get324 .ensures) (c .before .before .before .before .before .before .before .before .before .before .before .before .get325 .ensures) (c .before .before .before .before .before .before .before .before .before .before .get326 .ensures) (c .before .before .before .before .before .before .before .before .get327 .ensures) (c .before .before .before .before .before .before .get328 .ensures) (c .before .before .before .before .get329 .ensures) (c .before .before .get3210 .ensures) (c .get3211 .ensures)
 
 pub initial-spec : {M : Type 1} → statement M
 initial-spec =

@@ -1,5 +1,7 @@
 -- `chacha20::block::quarter` meets its contract: it is two halves. Assumes nothing.
-use Rattle.chacha20.specs.ChaCha.{quarter}
+use Rattle.chacha20.specs.declared.Quad.{Quad}
+use mathlib.Core.Path.{ap, _∙_}
+use Rattle.chacha20.specs.ChaCha.{quarter, half}
 use borrow.Author.Needs.{needs}
 use Rattle.chacha20.proofs.block.quarter.Statement.{statement}
 use Rattle.chacha20.proofs.block.quarter.Tie as tie
@@ -12,7 +14,7 @@ half-requires-2 c κs = search needs
 
 returns : tie.Need-returns
 unfolding quarter
-returns c = cc
+returns c = c .half2 .ensures ∙ ap (λ (q : Quad). half q 8 7) (c .before .half .ensures)
 
 pub quarter-spec : {M : Type 1} → statement M
 quarter-spec = tie.close (tie.spec half-requires half-requires-2 returns)

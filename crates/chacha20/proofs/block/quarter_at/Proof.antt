@@ -1,4 +1,5 @@
 -- `chacha20::block::quarter_at` meets its contract: four words are read, and four stored. Assumes nothing.
+use mathlib.Core.Path.{ap}
 use Rattle.chacha20.specs.ChaCha.{pick, put, quarterAt}
 use borrow.Author.Needs.{needs}
 use Rattle.chacha20.proofs.block.quarter_at.Statement.{statement}
@@ -59,8 +60,10 @@ same-length : tie.Need-same-length
 same-length c = search needs
 
 returns : tie.Need-returns
-unfolding pick put quarterAt
-returns c = cc
+unfolding quarterAt put pick
+returns c =
+    let a = c .before .before .before .before .before .before .args in
+    ap (put (a .s .now) (a .a) (a .b) (a .c) (a .d)) (c .quarter .ensures)
 
 pub quarter-at-spec : {M : Type 1} → statement M
 quarter-at-spec =

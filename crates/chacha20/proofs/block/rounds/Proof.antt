@@ -1,10 +1,10 @@
 -- `chacha20::block::rounds` meets its contract: after n turns it is n times both rounds. Assumes nothing.
 use Prim.Native.Nat.{_≤_, _-_}
-use mathlib.Core.Path.{_≡_, refl}
+use mathlib.Core.Path.{_≡_, refl, ap, _∙_}
 use native.Mathlib.Numerals.{add-one}
 use native.Mathlib.Omega.{arith}
 use borrow.Author.Needs.{needs}
-use Rattle.chacha20.specs.ChaCha.{rounds}
+use Rattle.chacha20.specs.ChaCha.{rounds, inner}
 use Rattle.chacha20.proofs.block.rounds.Statement.{statement}
 use Rattle.chacha20.proofs.block.rounds.Tie as tie
 
@@ -29,10 +29,14 @@ loop-less c = search needs
 
 loop-again : tie.Need-loop-again Inv-loop μ-loop
 unfolding rounds
-loop-again c = (omega arith, rw add-one (cc))
+loop-again c =
+    (omega arith, rw add-one (c .inner .ensures ∙ ap inner (c .before .before .before .loop .inv .1)))
 
 returns : tie.Need-returns Inv-loop μ-loop
-returns c = let e : c .before .loop .n ≡ 10 = omega arith in cc
+returns c =
+    let l = c .before .loop in
+    let e : l .n ≡ 10 = omega arith in
+    rw (← e) (l .inv .1)
 
 pub rounds-spec : {M : Type 1} → statement M
 rounds-spec =

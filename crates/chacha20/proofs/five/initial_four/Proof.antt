@@ -1,5 +1,7 @@
 -- `chacha20::five::initial_four` meets its contract: the words of one, spread, and three other counters. Assumes nothing.
-use Rattle.chacha20.specs.Lanes.{initialFour}
+use Rattle.chacha20.specs.ChaCha.{initial}
+use mathlib.Core.Path.{ap, _∙_, _≡_}
+use Rattle.chacha20.specs.Lanes.{initialFour, spread}
 use borrow.Author.Needs.{needs}
 use Rattle.chacha20.proofs.five.initial_four.Statement.{statement}
 use Rattle.chacha20.proofs.five.initial_four.Tie as tie
@@ -30,7 +32,10 @@ array-write-t-3 c = search needs
 
 returns : tie.Need-returns
 unfolding initialFour
-returns c = cc
+returns c =
+    let a = c .before .before .before .before .before .before .args in
+    let s : c .before .before .before .spread .result ≡ spread (initial (a .key .now) (a .nonce .now) (a .n)) = c .before .before .before .spread .ensures ∙ ap spread (c .before .before .before .before .before .initial .ensures) in
+    rw (s, c .before .before .add .ensures, c .before .add2 .ensures, c .add3 .ensures)
 
 pub initial-four-spec : {M : Type 1} → statement M
 initial-four-spec =

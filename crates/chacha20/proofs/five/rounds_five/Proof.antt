@@ -1,11 +1,11 @@
 -- `chacha20::five::rounds_five` meets its contract: after n turns both states have had n times both rounds. Assumes nothing.
 use Prim.Native.Nat.{_≤_, _-_}
-use mathlib.Core.Path.{_≡_, refl}
+use mathlib.Core.Path.{_≡_, refl, ap, _∙_}
 use native.Mathlib.Numerals.{add-one}
 use native.Mathlib.Omega.{arith}
 use borrow.Author.Needs.{needs}
-use Rattle.chacha20.specs.ChaCha.{rounds}
-use Rattle.chacha20.specs.Lanes.{roundsFour}
+use Rattle.chacha20.specs.ChaCha.{rounds, inner}
+use Rattle.chacha20.specs.Lanes.{roundsFour, innerFour}
 use Rattle.chacha20.proofs.five.rounds_five.Statement.{statement}
 use Rattle.chacha20.proofs.five.rounds_five.Tie as tie
 
@@ -33,10 +33,17 @@ loop-less c = search needs
 
 loop-again : tie.Need-loop-again Inv-loop μ-loop
 unfolding rounds roundsFour
-loop-again c = (omega arith, (rw add-one (cc), rw add-one (cc)))
+loop-again c =
+    let l = c .before .before .before .before .before .loop in (
+      omega arith,
+      (rw add-one (c .before .before .inner-four .ensures ∙ ap innerFour (l .inv .1 .0)), rw add-one (c .inner .ensures ∙ ap inner (l .inv .1 .1))),
+    )
 
 returns : tie.Need-returns Inv-loop μ-loop
-returns c = let e : c .before .loop .n ≡ 10 = omega arith in (cc, cc)
+returns c =
+    let l = c .before .loop in
+    let e : l .n ≡ 10 = omega arith in
+    (rw (← e) (l .inv .1 .0), rw (← e) (l .inv .1 .1))
 
 pub rounds-five-spec : {M : Type 1} → statement M
 rounds-five-spec =

@@ -1,10 +1,9 @@
 -- `chacha20::five::spread` meets its contract: after i turns the first i words are those of the table. Assumes nothing.
-use Prim.Native.Nat.{ℕ, _≤_, _-_}
+use Prim.Native.Nat.{ℕ, _≤_, _-_, _/_}
 use mathlib.Core.Path.{_≡_, sym}
 use native.Mathlib.Omega.{arith}
 use borrow.Author.Needs.{needs}
 use lib.ListN.{length, getD}
-use Prim.Native.Nat.{_/_}
 use Rattle.chacha20.specs.Lanes.{table, spread}
 use Rattle.words.specs.Bytes.{zeros}
 use Rattle.chacha20.proofs.Front.{front, front-none, front-turn, front-all}

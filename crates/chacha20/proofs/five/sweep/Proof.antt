@@ -1,6 +1,8 @@
 -- `chacha20::five::sweep` meets its contract: after i turns it is i quarter rounds. Assumes nothing.
-use Prim.Native.Nat.{_≤_, _-_}
-use mathlib.Core.Path.{_≡_, refl}
+use Rattle.chacha20.specs.ChaCha.{quarterAt}
+use mathlib.Core.List.{List}
+use Prim.Native.Nat.{ℕ, _+_, _≤_, _-_}
+use mathlib.Core.Path.{_≡_, refl, ap, _∙_}
 use native.Mathlib.Numerals.{add-one}
 use native.Mathlib.Omega.{arith}
 use borrow.Author.Needs.{needs}
@@ -38,10 +40,15 @@ loop-less c = search needs
 
 loop-again : tie.Need-loop-again Inv-loop μ-loop
 unfolding swept
-loop-again c = (omega arith, rw add-one (cc))
+loop-again c =
+    let l = c .before .before .before .loop in
+    (omega arith, rw add-one (c .quarter-at .ensures ∙ ap (λ (x : List ℕ). quarterAt x (l .i) (16 + l .i) (32 + l .i) (48 + l .i)) (l .inv .1)))
 
 returns : tie.Need-returns Inv-loop μ-loop
-returns c = let e : c .before .loop .i ≡ 16 = omega arith in cc
+returns c =
+    let l = c .before .loop in
+    let e : l .i ≡ 16 = omega arith in
+    rw (← e) (l .inv .1)
 
 pub sweep-spec : {M : Type 1} → statement M
 sweep-spec =

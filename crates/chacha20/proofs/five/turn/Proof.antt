@@ -1,6 +1,8 @@
 -- `chacha20::five::turn` meets its contract: after i turns the first i words of the row are the turned ones. Assumes nothing.
-use Prim.Native.Nat.{_≤_, _-_}
-use mathlib.Core.Path.{_≡_, refl}
+use lib.ListN.{set, getD}
+use mathlib.Core.List.{List}
+use Prim.Native.Nat.{ℕ, _+_, _≤_, _-_, _%_}
+use mathlib.Core.Path.{_≡_, refl, ap}
 use native.Mathlib.Numerals.{add-one}
 use native.Mathlib.Omega.{arith}
 use borrow.Author.Needs.{needs}
@@ -47,10 +49,16 @@ loop-less c = search needs
 
 loop-again : tie.Need-loop-again Inv-loop μ-loop
 unfolding turned
-loop-again c = (omega arith, rw add-one (cc))
+loop-again c =
+    let l = c .before .loop in
+    let a = c .before .before .before .args in
+    (omega arith, rw add-one (ap (λ (x : List ℕ). set x (a .row + l .i) (getD (a .s .now) (a .row + (l .i + a .by) % 16) 0)) (l .inv .1)))
 
 returns : tie.Need-returns Inv-loop μ-loop
-returns c = let e : c .before .loop .i ≡ 16 = omega arith in cc
+returns c =
+    let l = c .before .loop in
+    let e : l .i ≡ 16 = omega arith in
+    rw (← e) (l .inv .1)
 
 pub turn-spec : {M : Type 1} → statement M
 turn-spec =
