@@ -1,15 +1,13 @@
 // Finish, steps 4 and 6, on the desk: what an accepted request leaves there. Each function changes one part and keeps the desk's shape.
 ghost use mathlib.Core.Path.{_≡_};
-ghost use Prim.Native.Nat.{_+_, _*_, _≤_, _<_};
-ghost use mathlib.Core.List.{[], _∷_, _++_};
+ghost use Prim.Native.Nat.{_≤_};
 ghost use lib.ListN.{length};
-ghost use Rattle.words.specs.Bytes.{splice};
-ghost use Rattle.words.specs.Numbers.{bytesOf};
-ghost use Rattle.desk.specs.Layout.{Whole, idsOf, roomOf, shapeOf};
+ghost use Rattle.sizes.specs.Sizes.{digestLen};
+ghost use Rattle.desk.specs.Layout.{Whole, idsOf, roomOf};
 ghost use Rattle.desk.specs.Changes.{withPlace, withRoot, withStash};
 ghost use Rattle.placing.specs.Bank.{Inside, blocksAt};
 ghost use Rattle.placing.specs.Walk.{pick};
-ghost use Rattle.settling.specs.Settling.{closed, settled};
+ghost use Rattle.settling.specs.Settling.{Held, closed, settled};
 
 // The id's position and mark.
 pub fn set_place(desk: &mut [u8], id: usize, leaf: u16, mark: u8)
@@ -23,14 +21,7 @@ pub fn set_place(desk: &mut [u8], id: usize, leaf: u16, mark: u8)
 }
 
 // The stash: `over` blocks, those of the bank at the height above the root.
-pub fn set_stash(
-    desk: &mut [u8],
-    over: usize,
-    h: u8,
-    at: &[u8],
-    places: &[u16],
-    bank: &[u8],
-)
+pub fn set_stash(desk: &mut [u8], over: usize, h: u8, at: &[u8], places: &[u16], bank: &[u8])
     requires { ⌜ Whole (now desk) × (over ≤ roomOf (now desk)) ⌝ }
     requires { ⌜ (length (now places) ≤ length (now at)) × Inside (now bank) (now places) ⌝ }
     requires { ⌜ length (pick h (now at) (blocksAt (now bank) (now places))) ≡ over ⌝ }
@@ -60,4 +51,29 @@ pub fn close(desk: &mut [u8])
     let h = desk::shape_of(desk);
     words::clear(desk, h.c_at(), desk::REQUEST_HEAD + h.r);
     desk[desk::STATUS] = desk::READY;
+}
+
+// All of it, for an accepted request.
+pub fn settle(
+    desk: &mut [u8],
+    id: usize,
+    leaf: u16,
+    mark: u8,
+    over: usize,
+    h: u8,
+    at: &[u8],
+    places: &[u16],
+    bank: &[u8],
+    root: &[u8; 32],
+)
+    requires { ⌜ Whole (now desk) × ((1 ≤ id) × (id ≤ idsOf (now desk))) ⌝ }
+    requires { ⌜ (over ≤ roomOf (now desk)) × (length (now root) ≡ digestLen) ⌝ }
+    requires { ⌜ (length (now places) ≤ length (now at)) × Inside (now bank) (now places) ⌝ }
+    requires { ⌜ Held over (pick h (now at) (blocksAt (now bank) (now places))) ⌝ }
+    ensures { λ _. ⌜ now (desk .exit) ≡ settled id leaf mark (pick h (now (at .entry)) (blocksAt (now (bank .entry)) (now (places .entry)))) (now (root .entry)) (now (desk .entry)) ⌝ }
+{
+    set_place(desk, id, leaf, mark);
+    set_stash(desk, over, h, at, places, bank);
+    set_root(desk, root);
+    close(desk);
 }

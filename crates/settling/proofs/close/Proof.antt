@@ -26,7 +26,7 @@ add-clear : tie.Need-add-clear
 add-clear c = let r = record-length (c .before .before .before) in search needs
 
 clear-requires : tie.Need-clear-requires
-clear-requires c κs = 
+clear-requires c κs =
     let r = record-length (c .before .before .before) in
     let e = start (c .before) in
     let w = c .before .before .before .before .before .before .pre .size in

@@ -7,7 +7,7 @@ use lib.ListN.{length}
 use Rattle.words.specs.Numbers.{bytesOf}
 use Rattle.words.proofs.Numbers.{length-bytesOf}
 use Rattle.words.proofs.Splice.{splice-next}
-use Rattle.items.specs.Items.{slotsWith}
+use Rattle.placing.specs.Bank.{slotsWith}
 use Rattle.placing.specs.Bank.{blocksAt}
 use Rattle.placing.specs.Walk.{pick}
 use Rattle.desk.specs.declared.Shape.{Shape}
@@ -39,7 +39,7 @@ add-fill : tie.Need-add-fill
 add-fill c = let e = start (c .before .before .before .before .before) in let w = c .before .before .before .before .before .before .before .before .before .before .before .before .pre .0 .0 .size in search needs
 
 fill-requires : tie.Need-fill-requires
-fill-requires c κs = 
+fill-requires c κs =
     let p = c .before .before .before .before .before .before .before .before .before .before .before .before .pre in
     let e = start (c .before .before .before .before .before) in
     let r = room-is (c .before .before .before .before .before .before) in
@@ -53,7 +53,7 @@ same-length c = search needs
 
 returns : tie.Need-returns
 unfolding withStash stashBytes
-returns c = 
+returns c =
     let a = c .before .before .before .before .before .before .before .before .before .before .before .before .before .before .before .args in
     let p = c .before .before .before .before .before .before .before .before .before .before .before .before .before .before .before .pre in
     let bs = pick (a .h) (now (a .at)) (blocksAt (now (a .bank)) (now (a .places))) in
