@@ -1,2 +1,4 @@
 pub mod Heads
 pub mod Sides
+pub mod Climb
+pub mod Turn

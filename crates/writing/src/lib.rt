@@ -14,7 +14,7 @@ ghost use Rattle.items.specs.Items.{Carries, slotsOf};
 ghost use Rattle.items.specs.Way.{item, reachable, Reached};
 ghost use Rattle.items.specs.Real.{real};
 ghost use Rattle.writing.specs.Writing.{newCounter};
-ghost use Rattle.writing.specs.Pieces.{headOf, linksOf, WrittenBy};
+ghost use Rattle.writing.specs.Pieces.{headOf, linksOf, itemWritten, WrittenBy};
 
 // Flags and digests of an inner item.
 const LINKS: usize = Sizes::FLAGS + 2 * Sizes::DIGEST;
@@ -79,4 +79,37 @@ fn write_inner(path: &mut [u8], new: &[u8], v: View, n: usize, k: usize, d: &[u8
     let tail = links(path, v, n, k, d);
     write_head(path, new, v, n, k);
     words::copy(path, v.sizes.inner_at(k) + v.sizes.leaf_len(), &tail);
+}
+
+// The item at level `k`, above a child of digest `d` if it is an inner one.
+fn write_item(path: &mut [u8], new: &[u8], v: View, n: usize, k: usize, d: &[u8; 32])
+    requires { ⌜ Carries (v .sizes) (now path) × Carries (v .sizes) (now new) ⌝ }
+    requires { ⌜ (k ≤ v .sizes .height) × ((v .leaf < leaves (v .sizes)) × (reachable v (now path) k ≡ ltb k n)) ⌝ }
+    requires { ⌜ length (now d) ≡ digestLen ⌝ }
+    ensures { λ _. ⌜ now (path .exit) ≡ splice (now (path .entry)) (itemAt (v .sizes) k) (itemWritten v (now (path .entry)) (now (new .entry)) k (now (d .entry))) ⌝ }
+{
+    let s = v.sizes;
+    if k < s.height {
+        write_inner(path, new, v, n, k, d);
+        return;
+    }
+    write_head(path, new, v, n, k);
+}
+
+// The whole path, from the leaf up; the result is the new root digest.
+pub fn write_path(path: &mut [u8], new: &[u8], v: View, n: usize) -> [u8; 32]
+    requires { ⌜ Carries (v .sizes) (now path) × (length (now path) ≡ pathLen (v .sizes)) ⌝ }
+    requires { ⌜ Carries (v .sizes) (now new) × ((v .leaf < leaves (v .sizes)) × Reached v (now path) n) ⌝ }
+    ensures { λ r. ⌜ WrittenBy v (now (path .entry)) (now (new .entry)) (now (path .exit)) r ⌝ }
+{
+    let s = v.sizes;
+    let mut d = [0u8; 32];
+    let mut k = s.height + 1;
+    while 0 < k {
+        k -= 1;
+        write_item(path, new, v, n, k, &d);
+        let above = items::item_digest(path, s, k);
+        d = above;
+    }
+    d
 }
