@@ -20,11 +20,11 @@ const FIVE: usize = 320;
 const WORDS: usize = 16;
 
 // Four words of the state.
-pub struct Quad {
-    pub a: u32,
-    pub b: u32,
-    pub c: u32,
-    pub d: u32,
+struct Quad {
+    a: u32,
+    b: u32,
+    c: u32,
+    d: u32,
 }
 
 // The bytes of `part`, each combined with the one of `ks` at its place.
