@@ -1,9 +1,9 @@
--- `desk::bodies_good` meets its contract: each body is tested where it stands. Assumes nothing.
+-- `desk::bodies::bodies_good` meets its contract: each body is tested where it stands. Assumes nothing.
 use Rattle.desk.specs.Good.{bodiesGood}
 use Rattle.desk.proofs.Lengths.{tail-part}
 use borrow.Author.Needs.{needs}
-use Rattle.desk.proofs.bodies_good.Statement.{statement}
-use Rattle.desk.proofs.bodies_good.Tie as tie
+use Rattle.desk.proofs.bodies.bodies_good.Statement.{statement}
+use Rattle.desk.proofs.bodies.bodies_good.Tie as tie
 
 c-at-requires : tie.Need-c-at-requires
 c-at-requires c κs = search needs

@@ -1,9 +1,9 @@
--- `desk::request_good` meets its contract: status 0 has one rule, the others have another. Assumes nothing.
+-- `desk::bodies::request_good` meets its contract: status 0 has one rule, the others have another. Assumes nothing.
 use borrow.Author.Tests.{eq-eqb, ne-eqb}
 use Rattle.desk.specs.Good.{requestGood}
 use borrow.Author.Needs.{needs}
-use Rattle.desk.proofs.request_good.Statement.{statement}
-use Rattle.desk.proofs.request_good.Tie as tie
+use Rattle.desk.proofs.bodies.request_good.Statement.{statement}
+use Rattle.desk.proofs.bodies.request_good.Tie as tie
 
 is-zero-requires : tie.Need-is-zero-requires
 is-zero-requires c κs = search needs

@@ -1,9 +1,9 @@
--- `desk::open_good` meets its contract: the tests of the definition, in its order. Assumes nothing.
+-- `desk::bodies::open_good` meets its contract: the tests of the definition, in its order. Assumes nothing.
 use Rattle.desk.specs.Good.{openGood}
 use Rattle.desk.proofs.Lengths.{tail-part}
 use borrow.Author.Needs.{needs}
-use Rattle.desk.proofs.open_good.Statement.{statement}
-use Rattle.desk.proofs.open_good.Tie as tie
+use Rattle.desk.proofs.bodies.open_good.Statement.{statement}
+use Rattle.desk.proofs.bodies.open_good.Tie as tie
 
 shared-slice-read-kind : tie.Need-shared-slice-read-kind
 shared-slice-read-kind c = search needs

@@ -1,12 +1,12 @@
--- `desk::stash_good` meets its contract: a count above S decides; else the slots in use end within the stash. Assumes nothing.
+-- `desk::bodies::stash_good` meets its contract: a count above S decides; else the slots in use end within the stash. Assumes nothing.
 use Prim.Native.Nat.{_≤_}
 use borrow.Author.Tests.{le-leb, lt-leb}
 use Rattle.desk.specs.Layout.{slotAt}
 use Rattle.desk.specs.Good.{stashGood}
 use Rattle.desk.proofs.Lengths.{slot-le, tail-part}
 use borrow.Author.Needs.{needs}
-use Rattle.desk.proofs.stash_good.Statement.{statement}
-use Rattle.desk.proofs.stash_good.Tie as tie
+use Rattle.desk.proofs.bodies.stash_good.Statement.{statement}
+use Rattle.desk.proofs.bodies.stash_good.Tie as tie
 
 used : (c : tie.Else1) → let a = c .before .before .before .before .before .args in slotAt (a .h) (c .before .before .get16 .result) ≤ slotAt (a .h) (a .h .s)
 used c = let a = c .before .before .before .before .before .args in slot-le (a .h) (c .before .before .get16 .result) (a .h .s) (c .if1 .left)

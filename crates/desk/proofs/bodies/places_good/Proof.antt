@@ -1,4 +1,4 @@
--- `desk::places_good` meets its contract: the first i places are good; the first other one decides. Assumes nothing.
+-- `desk::bodies::places_good` meets its contract: the first i places are good; the first other one decides. Assumes nothing.
 use Prim.Native.Nat.{_≤_, _-_}
 use mathlib.Core.Path.{_≡_, sym, _∙_}
 use mathlib.Core.Bool.{true}
@@ -7,8 +7,8 @@ use borrow.Author.Tests.{not-true, not-false}
 use Rattle.words.specs.Tests.{all}
 use Rattle.words.proofs.Tests.{all-none, all-more, all-fails, all-end}
 use Rattle.desk.specs.Good.{placeGood, placesGood}
-use Rattle.desk.proofs.places_good.Statement.{statement}
-use Rattle.desk.proofs.places_good.Tie as tie
+use Rattle.desk.proofs.bodies.places_good.Statement.{statement}
+use Rattle.desk.proofs.bodies.places_good.Tie as tie
 
 abbrev Inv-loop : tie.InvT-loop
 Inv-loop d n most i₀ i = (i ≤ n) × (all i (placeGood most d) ≡ true)

@@ -1,9 +1,9 @@
--- `desk::slot_good` meets its contract: the tests of the definition, in its order; an id out of range decides before its place is read. Assumes nothing.
+-- `desk::bodies::slot_good` meets its contract: the tests of the definition, in its order; an id out of range decides before its place is read. Assumes nothing.
 use borrow.Author.Tests.{lt-ltb, le-ltb, le-leb, lt-leb}
 use Rattle.desk.specs.Good.{slotAfter}
 use borrow.Author.Needs.{needs}
-use Rattle.desk.proofs.slot_good.Statement.{statement}
-use Rattle.desk.proofs.slot_good.Tie as tie
+use Rattle.desk.proofs.bodies.slot_good.Statement.{statement}
+use Rattle.desk.proofs.bodies.slot_good.Tie as tie
 
 slot-at-requires : tie.Need-slot-at-requires
 slot-at-requires c κs = search needs

@@ -1,4 +1,4 @@
--- `desk::slots_good` meets its contract: the first i slots are good, and `last` is the id of the last of them. Assumes nothing.
+-- `desk::bodies::slots_good` meets its contract: the first i slots are good, and `last` is the id of the last of them. Assumes nothing.
 use Prim.Native.Nat.{_+_, _≤_, _-_}
 use mathlib.Core.Path.{_≡_, refl, sym, _∙_}
 use mathlib.Core.Bool.{true}
@@ -11,8 +11,8 @@ use Rattle.slots.specs.Slots.{slotBy}
 use Rattle.desk.specs.Layout.{slotAt}
 use Rattle.desk.specs.Good.{idBefore, slotGood}
 use Rattle.desk.proofs.Lengths.{slot-step}
-use Rattle.desk.proofs.slots_good.Statement.{statement}
-use Rattle.desk.proofs.slots_good.Tie as tie
+use Rattle.desk.proofs.bodies.slots_good.Statement.{statement}
+use Rattle.desk.proofs.bodies.slots_good.Tie as tie
 
 abbrev Inv-loop : tie.InvT-loop
 Inv-loop d e h count last₀ i₀ last i = (i ≤ count) × ((last ≡ idBefore h e i) × (all i (slotGood h d e) ≡ true))
