@@ -1,0 +1,3 @@
+pub mod Those
+pub mod Taken
+pub mod Arranged
