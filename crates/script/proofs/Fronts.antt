@@ -113,22 +113,22 @@ pub spaced-empty : (xs : List ℕ) → length xs ≡ 0 → number.None ≡ space
 spaced-empty [] h = refl
 spaced-empty (x ∷ xs) h = absurd (omega arith)
 
--- a number that is there has its digits in the list
-is-inside : (t : Bool) (w k n v : ℕ) → cond t (number.Is w k) number.None ≡ number.Is v n → k ≡ n
-is-inside true w k n v e = cc
-is-inside false w k n v e = absurd (let z : _≡_ {A = ℕ} 0 1 = cc in omega arith)
+-- a number that is there has the value and the digits that were counted
+pub is-values : (k w v n : ℕ) → numberBy k w ≡ number.Is v n → (leb 1 k && leb k mostDigits && leb w mostNumber ≡ true) × (w ≡ v) × (k ≡ n)
+is-values k w v n e = by (leb 1 k && leb k mostDigits && leb w mostNumber) e
+  where
+    by : (t : Bool) → cond t (number.Is w k) number.None ≡ number.Is v n → (t ≡ true) × (w ≡ v) × (k ≡ n)
+    by true f = (refl, cc, cc)
+    by false f = absurd (let z : _≡_ {A = ℕ} 0 1 = cc in omega arith)
 
-number-len : (k w v n : ℕ) → numberBy k w ≡ number.Is v n → k ≡ n
-number-len k w v n e = is-inside (leb 1 k && leb k mostDigits && leb w mostNumber) w k n v e
-
-none-is-none : {A : Type 0} (v n : ℕ) → number.None ≡ number.Is v n → A
+pub none-is-none : {A : Type 0} (v n : ℕ) → number.None ≡ number.Is v n → A
 none-is-none v n e = absurd (let z : _≡_ {A = ℕ} 0 1 = cc in omega arith)
 
 pub spaced-inside : (xs : List ℕ) (v n : ℕ) → spaced xs ≡ number.Is v n → 1 + n ≤ length xs
 spaced-inside [] v n e = none-is-none v n e
 spaced-inside (x ∷ xs) v n e =
     byCases (eqb x space)
-    (λ h. let q : length (digits xs) ≡ n = number-len (length (digits xs)) (value 0 (digits xs)) v n (rw h at e) in omega (arith, length-digits xs))
+    (λ h. let q : length (digits xs) ≡ n = is-values (length (digits xs)) (value 0 (digits xs)) v n (rw h at e) .2 in omega (arith, length-digits xs))
     (λ h. none-is-none v n (rw h at e))
 
 -- i numbers are laid into `out`, and what stands from `at` on has the others

@@ -1,3 +1,5 @@
 pub mod Fronts
 pub mod Meanings
 pub mod Written
+pub mod Pieces
+pub mod Bounds

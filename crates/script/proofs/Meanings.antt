@@ -3,19 +3,21 @@ use Prim.Native.Nat.{ℕ, zero, suc, _+_, _-_, _≤_, _<_}
 use mathlib.Core.Path.{_≡_, refl, sym, ap, subst, _∙_}
 use mathlib.Core.Bool.{Bool, true, false, cond, _&&_, and-false}
 use mathlib.Core.List.{List, [], _∷_}
+use native.Mathlib.Nat.{zero-add}
 use native.Mathlib.Omega.{arith}
 use borrow.Author.Tests.{eq-eqb, ne-eqb, eqb-true}
-use lib.ListN.{length, take, drop, getD, length-take, length-drop}
+use lib.ListN.{length, take, drop, getD, length-take, length-drop, length-append}
 use lib.Seq.{drop-drop}
 use lib.Dec.{eqb}
-use Rattle.words.specs.Bytes.{part, splice}
-use Rattle.words.proofs.Splice.{part-tail, splice-whole}
+use Rattle.words.specs.Bytes.{part, splice, zeros}
+use Rattle.sizes.specs.Sizes.{recordLen}
+use Rattle.words.proofs.Splice.{part-tail, splice-whole, splice-next, length-zeros}
 use Rattle.words.proofs.Tests.{same-eq}
 use Rattle.desk.specs.declared.Kind.the-variants.{Write}
 use Rattle.script.specs.declared.Taken.{Taken}
 use Rattle.script.specs.declared.Taken.the-variants as taken
 use Rattle.script.specs.Text.{space, startWord}
-use Rattle.script.specs.Lines.{begins, values, valuesLen, areThere, takenOf, Inside, textGood, restGood, startEnd, startGood}
+use Rattle.script.specs.Lines.{begins, values, valuesLen, areThere, takenOf, Inside, textGood, restGood, recordOf, startEnd, startGood}
 
 -- ---- the word
 
@@ -103,3 +105,12 @@ start-some (suc n) xs k b z f = start-by (suc n) xs b (f .there) ∙ rw (f .len)
 
 pub start-lost : (n : ℕ) (xs : List ℕ) → areThere n (drop 5 xs) ≡ false → startGood n xs ≡ false
 start-lost n xs t = rw (t, and-false)
+
+-- ---- a text laid into a record
+
+pub laid-text : (rec text : List ℕ) → length rec ≡ recordLen → length text ≤ recordLen
+    → splice (splice rec 0 text) (length text) (zeros (recordLen - length text)) ≡ recordOf text
+laid-text rec text h k =
+    ap (λ (j : ℕ). splice (splice rec 0 text) j (zeros (recordLen - length text))) (sym (zero-add (length text)))
+    ∙ splice-next rec 0 text (zeros (recordLen - length text)) (length text) refl (omega arith)
+    ∙ splice-whole rec (recordOf text) (omega (arith, length-append text (zeros (recordLen - length text)), length-zeros (recordLen - length text)))

@@ -1,10 +1,10 @@
 -- What a line of the script means. Definitions go by the bytes of the line, without its line feed. Assumes nothing.
 use Prim.Native.Nat.{ℕ, zero, suc, _+_, _*_, _-_, _≤_, min}
 use mathlib.Core.Bool.{Bool, true, cond, _&&_}
-use mathlib.Core.List.{List, [], _∷_}
+use mathlib.Core.List.{List, [], _∷_, _++_}
 use lib.ListN.{length, take, drop, getD}
 use lib.Dec.{leb, eqb}
-use Rattle.words.specs.Bytes.{splice, same}
+use Rattle.words.specs.Bytes.{splice, same, zeros}
 use Rattle.sizes.specs.Sizes.{recordLen}
 use Rattle.desk.specs.declared.Kind.{Kind}
 use Rattle.desk.specs.declared.Kind.the-variants.{Read, Write}
@@ -129,6 +129,10 @@ abbrev pub requestOf : List ℕ → Line
 requestOf xs =
     cond (begins xs writeWord) (requestAfter Write (length writeWord) xs)
     (cond (begins xs readWord) (requestAfter Read (length readWord) xs) line.Bad)
+
+-- the record of a text: padded with zeros
+abbrev pub recordOf : List ℕ → List ℕ
+recordOf text = text ++ zeros (recordLen - length text)
 
 -- ---- `store ` L Z S N: L at most 3, S at most 255
 

@@ -5,6 +5,7 @@ use sizes::Refusal;
 
 pub mod listing;
 pub mod reading;
+pub mod window;
 
 // A number of the script: its value, and how many digits it has.
 pub enum Number {
@@ -52,4 +53,11 @@ pub enum Answer {
     Never,
     Done,
     Refused(Refusal),
+}
+
+// What a window has to read: a line up to `end`, after which the next one begins; or more of the script is wanted; or nothing is left.
+pub enum Next {
+    Line { end: usize, next: usize },
+    More,
+    Over,
 }

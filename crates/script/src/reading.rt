@@ -10,8 +10,11 @@ ghost use Rattle.desk.specs.declared.Kind.the-variants.{Write};
 ghost use Prim.Native.Nat.{_+_, _-_, _≤_, min};
 ghost use lib.ListN.{length};
 ghost use Rattle.words.specs.Bytes.{splice};
+ghost use Rattle.sizes.specs.Sizes.{recordLen};
 ghost use Rattle.script.specs.Lines as spec;
-ghost use Rattle.script.specs.Lines.{isDigit, numberBy, numberOf, spaced, values, takenOf, Inside, restGood, requestAfter, requestOf, storeBy, storeOf, startGood, startLeaves};
+ghost use Rattle.script.specs.Lines.{isDigit, numberBy, numberOf, spaced, values, takenOf, Inside, restGood, requestAfter, requestOf, recordOf, storeBy, storeOf, startGood, startLeaves};
+
+pub const LINE_FEED: u8 = 10;
 
 pub const SPACE: u8 = 32;
 
@@ -268,4 +271,14 @@ pub fn start_line(line: &[u8], leaves: &mut [u16]) -> bool
             line.len() == from + n
         }
     }
+}
+
+// A text, padded with zeros to a record.
+pub fn lay_text(record: &mut [u8], text: &[u8])
+    requires { ⌜ (length (now «record») ≡ recordLen) × (length (now text) ≤ recordLen) ⌝ }
+    ensures { λ _. ⌜ now («record» .exit) ≡ recordOf (now (text .entry)) ⌝ }
+{
+    let n = text.len();
+    words::copy(record, 0, text);
+    words::clear(record, n, Sizes::RECORD - n);
 }
