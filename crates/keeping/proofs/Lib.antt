@@ -1,0 +1,14 @@
+pub mod Lists
+pub mod Alike
+pub mod Standing
+pub mod Tied
+pub mod Clean
+pub mod Found
+pub mod Held
+pub mod Genuine
+pub mod Plain
+pub mod OnePlace
+pub mod Filled
+pub mod BagStep
+pub mod TableStep
+pub mod Sealed
