@@ -12,3 +12,6 @@ pub mod Filled
 pub mod BagStep
 pub mod TableStep
 pub mod Sealed
+pub mod Written
+pub mod TreeStep
+pub mod StandStep

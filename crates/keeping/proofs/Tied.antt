@@ -59,6 +59,19 @@ module _ (m : Means) (s : Sizes) (key : List ℕ) (server : Server) where
   tied-top : (h h′ : ℕ) → h ≡ h′ → (j j′ : ℕ) (r : Bool) (due : List ℕ) → j ≡ j′ → Tied h 0 j r due → Tied h′ 0 j′ r due
   tied-top h h′ e j j′ r due a t = rw (← e, ← a) t
 
+  -- the children, by their side
+  pub tied-child : (h k j : ℕ) (due : List ℕ) → Tied (suc h) k j true due → (on : ℕ) → on ≤ 1
+      → Tied h (suc k) (2 * j + on) (leads s server k j on) (digestOf s (orNil (server k j)) on)
+  unfolding Tied
+  tied-child h k j due t zero l = let e : 2 * j ≡ 2 * j + 0 = omega arith in rw (← e) (t refl .1)
+  tied-child h k j due t (suc zero) l = t refl .2
+  tied-child h k j due t (suc (suc on)) l = absurd (omega arith)
+
+  pub tied-make : (h k j : ℕ) (r : Bool) (due : List ℕ) → Node k j due
+      → ((on : ℕ) → on ≤ 1 → Tied h (suc k) (2 * j + on) (leads s server k j on) (digestOf s (orNil (server k j)) on)) → Tied (suc h) k j r due
+  unfolding Tied
+  tied-make h k j r due n f = λ e. let z : 2 * j + 0 ≡ 2 * j = omega arith in (n, rw z at (f 0 (omega arith)), f 1 (omega arith))
+
 -- ---- a path that meets it: where an item is reachable and the server's is tied, no digest tells them apart
 
 abbrev Meets : Means → View → List ℕ → Server → Type 0
