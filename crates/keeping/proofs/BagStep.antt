@@ -13,15 +13,16 @@ use Rattle.bags.specs.Bags.{bit, cnt, those, flat}
 use Rattle.bags.proofs.Bags.{cnt-append}
 use Rattle.slots.specs.Slots.{Block}
 use Rattle.desk.specs.Layout.{idsOf}
-use Rattle.desk.specs.Readers.{sizesOf, heightOf, slotsIn, kindAsked, idAsked, newLeaf, recordAsked, leafAsked}
+use Rattle.desk.specs.Readers.{sizesOf, kindAsked, idAsked, newLeaf, recordAsked, leafAsked}
 use Rattle.items.specs.Items.{Means}
 use Rattle.opening.specs.Opening.{viewOf, isId, gathered}
-use Rattle.placing.specs.Placing.{levels, placedIn, remaining}
+use Rattle.placing.specs.Placing.{sorted}
+use Rattle.placing.proofs.Rising.{sorted-same}
+use Rattle.placing.proofs.Placing.{placed-same}
 use Rattle.store.specs.Steps.{under, carried, wasMarked, recordFound, toPlace, placed, newStash}
 use Rattle.keeping.specs.Server.{Server, Agrees}
 use Rattle.keeping.specs.Table.{Table, placeOf, tableBlocks}
 use Rattle.keeping.proofs.Lists.{cnt-others, cnt-and}
-use Rattle.keeping.proofs.Filled.{same, cnt-sorted}
 use Rattle.keeping.proofs.Genuine.{Inv, Asks, off, total, not-off}
 
 -- of a table's blocks, those of one id
@@ -53,16 +54,21 @@ own desk table t u (suc n) =
 abbrev pub requested : Means → List ℕ → List ℕ → List Block
 requested m desk path = under (idAsked desk) (newLeaf desk) (carried (kindAsked desk) (wasMarked m desk path) (recordFound m desk path) (recordAsked desk))
 
--- what is placed or remains: the requested block and the others
-pub placed-all : (m : Means) (desk path : List ℕ) (t : Block → Bool)
+-- the requested block and the others; what is placed or remains is these
+abbrev pub gatheredNow : Means → List ℕ → List ℕ → List Block
+gatheredNow m desk path = requested m desk path ++ those (λ b. not (isId (idAsked desk) b)) (gathered m desk path)
+
+pub placed-now : (m : Means) (desk path : List ℕ) (t : Block → Bool) → cnt t (flat (placed m desk path)) + cnt t (newStash m desk path) ≡ cnt t (gatheredNow m desk path)
+unfolding toPlace
+placed-now m desk path t =
+    sym (cnt-append t (flat (placed m desk path)) (newStash m desk path))
+    ∙ placed-same (sizesOf desk) (leafAsked desk) (toPlace m desk path) t ∙ sorted-same (gatheredNow m desk path) t
+
+placed-all : (m : Means) (desk path : List ℕ) (t : Block → Bool)
     → cnt t (flat (placed m desk path)) + cnt t (newStash m desk path)
     ≡ cnt t (requested m desk path) + cnt t (those (λ b. not (isId (idAsked desk) b)) (gathered m desk path))
-unfolding placedIn remaining toPlace
 placed-all m desk path t =
-    sym (cnt-append t (flat (placed m desk path)) (newStash m desk path))
-    ∙ same (slotsIn desk) (levels (sizesOf desk) (leafAsked desk) (heightOf desk)) (toPlace m desk path) t
-    ∙ cnt-sorted t (requested m desk path ++ those (λ b. not (isId (idAsked desk) b)) (gathered m desk path))
-    ∙ cnt-append t (requested m desk path) (those (λ b. not (isId (idAsked desk) b)) (gathered m desk path))
+    placed-now m desk path t ∙ cnt-append t (requested m desk path) (those (λ b. not (isId (idAsked desk) b)) (gathered m desk path))
 
 -- the new path, the new stash and what is off the way: the table's blocks with the requested one replaced
 pub bag-step : (m : Means) (desk path : List ℕ) (server : Server) (table : Table) (v : Inv m desk server table) (asks : Asks desk)

@@ -8,10 +8,13 @@ pub mod Held
 pub mod Genuine
 pub mod Plain
 pub mod OnePlace
-pub mod Filled
 pub mod BagStep
 pub mod TableStep
 pub mod Sealed
 pub mod Written
 pub mod TreeStep
 pub mod StandStep
+pub mod Positions
+pub mod PlacedStep
+pub mod Carry
+pub mod DeskStep
