@@ -12,7 +12,7 @@ use borrow.Author.Tests.{eqb-true, eqb-false}
 use Rattle.words.proofs.Tests.{byCases}
 use Rattle.draws.specs.Draws.{AllGood, shown, lastDrawn}
 
-good-at : (n : ℕ) (us : List ℕ) → AllGood n us → (j : ℕ) → j < length us → (0 < getD us j 0) × (getD us j 0 ≤ n)
+pub good-at : (n : ℕ) (us : List ℕ) → AllGood n us → (j : ℕ) → j < length us → (0 < getD us j 0) × (getD us j 0 ≤ n)
 good-at n [] g j h = absurd (not-suc-le-zero h)
 good-at n (u ∷ us) g zero h = (g .0, g .1)
 good-at n (u ∷ us) g (suc j) h = good-at n us (g .2) j (le-of-suc-le-suc h)

@@ -29,8 +29,9 @@ use Rattle.desk.proofs.Frame.{good-sound, ready-sound, root-sound, changed-good
 use Rattle.desk.proofs.Read.{read-stash}
 use Rattle.desk.proofs.Stash.{length-stash, stash-count, stash-blocks}
 use Rattle.desk.proofs.Moved.{moved-sound}
-use Rattle.items.specs.Items.{Means, Sound, masked}
-use Rattle.opening.specs.Opening.{viewOf}
+use Rattle.items.specs.Items.{Means, Sound, counterOf, masked}
+use Rattle.items.specs.Way.{item, reachable}
+use Rattle.opening.specs.Opening.{viewOf, lastCounter}
 use Rattle.writing.specs.Writing.{written}
 use Rattle.store.specs.Steps.{wasMarked, placed, newStash, newPath, newRoot, newDesk}
 use Rattle.keeping.specs.Server.{Server, Agrees, wrote, standing}
@@ -46,7 +47,8 @@ use Rattle.keeping.proofs.PlacedStep.{mark-low, partsMoved, moved-chang
 
 module _ (m : Means) (o : Sound m) (desk path : List ℕ) (server : Server) (table : Table) (good : goodDesk desk ≡ true) (busy : statusOf desk ≡ readyStatus → ⊥)
     (v : Inv m desk server table) (asks : Asks desk) (fair : Agrees (viewOf desk) server path) (room : length (newStash m desk path) ≤ roomOf desk)
-    (small : roomOf desk < 65536) where
+    (small : roomOf desk < 65536)
+    (fresh : (k : ℕ) → k ≤ heightOf desk → reachable (viewOf desk) path k ≡ true → counterOf (item (viewOf desk) path k) ≢ lastCounter) where
   abbrev h : Shape
   h = shapeOf desk
 
@@ -117,14 +119,14 @@ module _ (m : Means) (o : Sound m) (desk path : List ℕ) (server : Server) (tab
       record {
         tied =
             to-desk (λ z key wr root. Tied m z key server′ (z .height) 0 0 wr root) now (sizesOf desk) (keyOf desk) 1 (newRoot m desk path) s k
-            (c .written) (c .root) (tied-after m o (viewOf desk) path server (asks .low) (v .tied) fair (placed m desk path) here);
+            (c .written) (c .root) (tied-after m o (viewOf desk) path server (asks .low) (v .tied) fair (placed m desk path) here fresh);
         bag =
             λ t.
             to-desk (λ z key wr root. cnt t (standing m z key server′ (z .height) 0 0 wr ++ stashOf now) ≡ cnt t (tableBlocks now after (idsOf now)))
             now (sizesOf desk) (keyOf desk) 1 (newRoot m desk path) s k (c .written) (c .root)
             (let st = standing m (sizesOf desk) (keyOf desk) server′ (sizesOf desk .height) 0 0 true in
             let a : cnt t (st ++ stashOf now) ≡ cnt t st + cnt t bs = cnt-append t st (stashOf now) ∙ ap (λ (x : List Block). cnt t st + cnt t x) now-stash in
-            let b = standing-after m o (viewOf desk) path server (asks .low) (v .tied) fair (placed m desk path) here (placed-length m desk path server table good busy v asks fair) t in
+            let b = standing-after m o (viewOf desk) path server (asks .low) (v .tied) fair (placed m desk path) here fresh (placed-length m desk path server table good busy v asks fair) t in
             let e = bag-after m desk path server table v asks fair now (position-new m desk path server table good busy v asks fair c refl)
             (position-old m desk path server table good busy v asks fair c refl) t in
             let f : cnt t (tableBlocks now after (idsOf now)) ≡ cnt t (tableBlocks now after (idsOf desk)) = ap (λ (x : ℕ). cnt t (tableBlocks now after x)) n in

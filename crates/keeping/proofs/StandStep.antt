@@ -17,8 +17,9 @@ use Rattle.bags.specs.Bags.{cnt, flat}
 use Rattle.bags.proofs.Bags.{cnt-append}
 use Rattle.slots.specs.Slots.{Block}
 use Rattle.items.specs.declared.View.{View}
-use Rattle.items.specs.Items.{Means, Sound, blocksIn}
-use Rattle.items.specs.Way.{bucket, side, reachable}
+use Rattle.items.specs.Items.{Means, Sound, counterOf, blocksIn}
+use Rattle.items.specs.Way.{item, bucket, side, reachable}
+use Rattle.opening.specs.Opening.{lastCounter}
 use Rattle.keeping.specs.Server.{Server, Agrees, leads, blocksAt, standing}
 use Rattle.keeping.proofs.Standing.{onIt, offIt, split, Rewritten, off-stays}
 use Rattle.keeping.proofs.Tied.{Tied}
@@ -41,7 +42,8 @@ below-none v path k r = rw r refl
 
 module _ (m : Means) (o : Sound m) (v : View) (path : List ℕ) (server : Server) (low : v .leaf < leaves (v .sizes))
     (tied : Tied m (v .sizes) (v .key) server (v .sizes .height) 0 0 (eqb (v .written) 1) (v .root)) (fair : Agrees v server path)
-    (placed : List (List Block)) (laid : (k : ℕ) → k ≤ v .sizes .height → Lies (v .sizes) (v .leaf) k (getD placed (v .sizes .height - k) [])) where
+    (placed : List (List Block)) (laid : (k : ℕ) → k ≤ v .sizes .height → Lies (v .sizes) (v .leaf) k (getD placed (v .sizes .height - k) []))
+    (fresh : (k : ℕ) → k ≤ v .sizes .height → reachable v path k ≡ true → counterOf (item v path k) ≢ lastCounter) where
   abbrev s : Sizes
   s = v .sizes
 
@@ -49,7 +51,7 @@ module _ (m : Means) (o : Sound m) (v : View) (path : List ℕ) (server : Server
   L = v .sizes .height
 
   abbrev now : Server
-  now = serverAfter m o v path server low tied fair placed laid
+  now = serverAfter m o v path server low tied fair placed laid fresh
 
   -- with h levels below level k
   module _ (k h : ℕ) (e : suc (k + h) ≡ L) where
@@ -62,12 +64,12 @@ module _ (m : Means) (o : Sound m) (v : View) (path : List ℕ) (server : Server
     ahead-is : leads s now k (v .leaf / 2 ^ suc h) (v .leaf / 2 ^ h % 2) ≡ true
     ahead-is =
         ap (λ (j : ℕ). leads s now k j (v .leaf / 2 ^ h % 2)) (sym here)
-        ∙ lead-on m o v path server low tied fair placed laid k (v .leaf / 2 ^ h % 2) (omega arith) (sym turns)
+        ∙ lead-on m o v path server low tied fair placed laid fresh k (v .leaf / 2 ^ h % 2) (omega arith) (sym turns)
 
     sibling-is : leads s now k (v .leaf / 2 ^ suc h) (1 - v .leaf / 2 ^ h % 2) ≡ (reachable v path k && leads s server k (v .leaf / 2 ^ suc h) (1 - v .leaf / 2 ^ h % 2))
     sibling-is =
         let n : 1 - v .leaf / 2 ^ h % 2 ≢ side v k = λ q. omega (arith, turns) in
-        rw (← here) (lead-off m o v path server low tied fair placed laid k (1 - v .leaf / 2 ^ h % 2) (omega arith) (omega arith) n)
+        rw (← here) (lead-off m o v path server low tied fair placed laid fresh k (1 - v .leaf / 2 ^ h % 2) (omega arith) (omega arith) n)
 
     down-is : reachable v path (suc k) ≡ (reachable v path k && leads s server k (v .leaf / 2 ^ suc h) (v .leaf / 2 ^ h % 2))
     down-is =
@@ -76,14 +78,14 @@ module _ (m : Means) (o : Sound m) (v : View) (path : List ℕ) (server : Server
         (λ r. below-none v path k r ∙ rw r refl)
 
   rewritten : Rewritten m s (v .key) (v .leaf) server now (reachable v path)
-  rewritten = record { others = others m o v path server low tied fair placed laid; down = down-is; ahead = ahead-is; sibling = sibling-is }
+  rewritten = record { others = others m o v path server low tied fair placed laid fresh; down = down-is; ahead = ahead-is; sibling = sibling-is }
 
   blocks-on : (t : Block → Bool) (h k : ℕ) → k + h ≡ L → cnt t (blocksAt m s (v .key) now k (v .leaf / 2 ^ h)) ≡ cnt t (getD placed h [])
   blocks-on t h k e =
       let d : L - k ≡ h = omega arith in
       let p : placeIn s (v .leaf) k ≡ v .leaf / 2 ^ h = ap (λ (n : ℕ). v .leaf / 2 ^ n) d in
       ap (λ (j : ℕ). cnt t (blocksAt m s (v .key) now k j)) (sym p)
-      ∙ ap (λ (x : List ℕ). cnt t (blocksIn m s (v .key) (bucket v k) x)) (new-item m o v path server low tied fair placed laid k (omega arith))
+      ∙ ap (λ (x : List ℕ). cnt t (blocksIn m s (v .key) (bucket v k) x)) (new-item m o v path server low tied fair placed laid fresh k (omega arith))
       ∙ ap (cnt t) (blocks-new m o v path placed (fair .size) laid k (omega arith) ∙ ap (λ (n : ℕ). getD placed n []) d)
 
   on-after : (t : Block → Bool) (h k : ℕ) → k + h ≡ L → cnt t (onIt m s (v .key) (v .leaf) now h k true) ≡ cnt t (flat (take (suc h) placed))

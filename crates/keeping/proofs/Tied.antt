@@ -33,6 +33,7 @@ module _ (m : Means) (s : Sizes) (key : List ℕ) (server : Server) where
     pub digest : itemDigest m s k (orNil (server k j)) ≡ due
     pub left-flag : flagOf s (orNil (server k j)) 0 ≤ 1
     pub right-flag : flagOf s (orNil (server k j)) 1 ≤ 1
+    pub counter : counterOf (orNil (server k j)) < 2 ^ 64
     pub sits : AllOf (λ b. placeIn s (b .leaf) k ≡ j) (blocksAt m s key server k j)
 
   -- and so on, h levels down, as far as flags lead

@@ -18,13 +18,15 @@ use Rattle.sizes.proofs.Buckets.{next-place}
 use Rattle.bags.specs.Bags.{AllOf}
 use Rattle.slots.specs.Slots.{Block}
 use Rattle.items.specs.declared.View.{View}
-use Rattle.items.specs.Items.{Means, Sound, flagOf, digestOf, itemDigest, blocksIn}
+use Rattle.items.specs.Items.{Means, Sound, counterOf, flagOf, digestOf, itemDigest, blocksIn}
 use Rattle.items.specs.Way.{item, side, reachable, digestDue}
-use Rattle.writing.specs.Writing.{isKept, newFlag, newDigest, written, pathWritten, rootWritten}
+use Rattle.writing.specs.Writing.{newCounter, isKept, newFlag, newDigest, written, pathWritten, rootWritten}
+use Rattle.opening.specs.Opening.{lastCounter}
 use Rattle.keeping.specs.Server.{Server, Agrees, wrote, orNil, leads}
 use Rattle.keeping.proofs.Standing.{half, same-bucket}
-use Rattle.keeping.proofs.Tied.{Node, Tied, tied-when, tied-eq, tied-child, tied-make, agree-walk, alike}
-use Rattle.keeping.proofs.Written.{Lies, newItem, digestBelow, item-new, item-length, flag-new, digest-new, blocks-new, leaf-flag}
+use Rattle.keeping.proofs.Alike.{counter-same}
+use Rattle.keeping.proofs.Tied.{Node, Tied, tied-when, tied-eq, tied-child, tied-make, agree-walk, node, alike}
+use Rattle.keeping.proofs.Written.{Lies, counter-new, newItem, digestBelow, item-new, item-length, flag-new, digest-new, blocks-new, leaf-flag}
 
 -- ---- a bucket that is not touched, with all below it, stays tied
 
@@ -37,6 +39,7 @@ node-same m s key server server′ k j due e n =
       digest = rw e (n .digest);
       left-flag = rw e (n .left-flag);
       right-flag = rw e (n .right-flag);
+      counter = rw e (n .counter);
       sits = rw e (n .sits);
     }
 
@@ -55,7 +58,8 @@ module _ (m : Means) (s : Sizes) (key : List ℕ) (leaf : ℕ) (server server′
 
 module _ (m : Means) (o : Sound m) (v : View) (path : List ℕ) (server : Server) (low : v .leaf < leaves (v .sizes))
     (tied : Tied m (v .sizes) (v .key) server (v .sizes .height) 0 0 (eqb (v .written) 1) (v .root)) (fair : Agrees v server path)
-    (placed : List (List Block)) (laid : (k : ℕ) → k ≤ v .sizes .height → Lies (v .sizes) (v .leaf) k (getD placed (v .sizes .height - k) [])) where
+    (placed : List (List Block)) (laid : (k : ℕ) → k ≤ v .sizes .height → Lies (v .sizes) (v .leaf) k (getD placed (v .sizes .height - k) []))
+    (fresh : (k : ℕ) → k ≤ v .sizes .height → reachable v path k ≡ true → counterOf (item v path k) ≢ lastCounter) where
   abbrev s : Sizes
   s = v .sizes
 
@@ -114,6 +118,17 @@ module _ (m : Means) (o : Sound m) (v : View) (path : List ℕ) (server : Server
 
   -- ---- tied to the new root digest
 
+  pub count-low : (k : ℕ) → k ≤ L → newCounter m v path placed k < 2 ^ 64
+  count-low k h =
+      byCases (reachable v path k)
+      (λ r.
+      let a = alike m v path server low tied fair k h r in
+      let c = counter-same s (item v path k) (orNil (server k (at k))) a in
+      let l = node m v path server low tied fair k h r .counter in
+      let n = fresh k h r in
+      rw r (omega (arith, c, l)))
+      (λ r. rw r (omega arith))
+
   flag-low : (k on : ℕ) → k ≤ L → on ≤ 1 → flagOf s (new k) on ≤ 1
   flag-low k on h l =
       below-or k L
@@ -133,6 +148,7 @@ module _ (m : Means) (o : Sound m) (v : View) (path : List ℕ) (server : Server
         there = new-at k h ∙ ap (λ (x : List ℕ). some x) (sym e);
         size = ap length e ∙ item-length m o v path placed (fair .size) laid k h;
         digest = ap (itemDigest m s k) e;
+        counter = rw (e, counter-new m o v path placed (fair .size) laid k h (count-low k h)) (count-low k h);
         left-flag = rw e (flag-low k 0 h (omega arith));
         right-flag = rw e (flag-low k 1 h (omega arith));
         sits = rw (e, blocks-new m o v path placed (fair .size) laid k h) (laid k h .sits);

@@ -19,10 +19,10 @@ use Rattle.sizes.proofs.Lengths.{inner-item, leaf-item, next-item, item-fits}
 use Rattle.bags.specs.Bags.{AllOf}
 use Rattle.slots.specs.Slots.{Block, AllFit}
 use Rattle.items.specs.declared.View.{View}
-use Rattle.items.specs.Items.{Means, Sound, flagOf, digestOf, masked, itemDigest, blocksIn, sealed}
+use Rattle.items.specs.Items.{Means, Sound, counterOf, flagOf, digestOf, masked, itemDigest, blocksIn, sealed}
 use Rattle.items.specs.Way.{item, bucket, side, reachable}
 use Rattle.writing.specs.Writing.{newCounter, newHead, isKept, newFlag, newDigest, newInner, Written, above, written, pathWritten}
-use Rattle.keeping.proofs.Sealed.{sealed-length, sealed-holds}
+use Rattle.keeping.proofs.Sealed.{sealed-length, sealed-counter, sealed-holds}
 
 -- blocks that may lie in the bucket at level k of the path to a leaf
 pub record Lies (s : Sizes) (leaf k : ℕ) (bs : List Block) : Type 0 where
@@ -195,6 +195,16 @@ module _ (m : Means) (o : Sound m) (v : View) (path : List ℕ) (placed : List (
       (λ i.
       let e : k ≡ L = omega arith in
       ap (blocksIn m s (v .key) (bucket v k)) (ap newItem e ∙ leaf-is ∙ ap (newHead m v path placed) (sym e) ∙ sym (append-nil (newHead m v path placed k))) ∙ holds [])
+
+  pub counter-new : (k : ℕ) → k ≤ L → newCounter m v path placed k < 2 ^ 64 → counterOf (newItem k) ≡ newCounter m v path placed k
+  counter-new k h c =
+      let l = laid k h in
+      let counts = sealed-counter m o s (v .key) (newCounter m v path placed k) (bucket v k) (blocksLaid k) (l .fits) (l .used) (l .few) in
+      below-or k L
+      (λ i. ap counterOf (split-is k i) ∙ counts (after-head k) c)
+      (λ i.
+      let e : k ≡ L = omega arith in
+      ap counterOf (ap newItem e ∙ leaf-is ∙ ap (newHead m v path placed) (sym e) ∙ sym (append-nil (newHead m v path placed k))) ∙ counts [] c)
 
   -- a leaf's item is too short for flags
   pub leaf-flag : (on : ℕ) → flagOf s (newItem L) on ≡ 0

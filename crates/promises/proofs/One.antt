@@ -1,0 +1,132 @@
+-- Demand 1 holds of our store. Assumes nothing.
+use Prim.Native.Nat.{ℕ, _<_, _≤_, _-_}
+use mathlib.Core.Path.{_≡_, refl, sym, ap, _∙_}
+use mathlib.Core.Bool.{Bool, true, false}
+use mathlib.Core.List.{List, [], _∷_}
+use native.Mathlib.Omega.{arith}
+use Rattle.sizes.specs.declared.Sizes.{Sizes}
+use Rattle.sizes.specs.declared.Refusal.{Refusal}
+use Rattle.sizes.specs.declared.Refusal.the-variants.{BadDesk, Stopped, Open, NotOpen, BadId, BadLeaf, BadLength, BadSize, Forged, Worn, Full}
+use Rattle.sizes.specs.declared.Outcome.{Outcome}
+use Rattle.sizes.specs.declared.Outcome.the-variants.{Done, Refused}
+use Rattle.sizes.specs.Refusals.{numberOf}
+use Rattle.desk.specs.declared.Kind.{Kind}
+use Rattle.desk.specs.declared.Kind.the-variants.{Read, Write}
+use Rattle.desk.specs.Readers.{positionOf, kindAsked}
+use Rattle.desk.specs.Status.{atStatus, stopped, stoppedOr}
+use Rattle.items.specs.Items.{Means}
+use Rattle.tree.specs.Tree.{treeRows, treeChecked, fetchOf, putOf}
+use Rattle.asks.specs.declared.Asked.{Asked}
+use Rattle.asks.specs.declared.Asked.the-variants as asked
+use Rattle.asks.specs.Ask.{askRows, askChecked, askedOf, askOf, opened}
+use Rattle.asks.proofs.Passed.{ask-spares}
+use Rattle.formats.specs.Format.{formatRows, formatChecked, formatted}
+use Rattle.formats.proofs.Passed.{format-spares}
+use Rattle.store.specs.declared.Finished.{Finished}
+use Rattle.store.specs.declared.Finished.the-variants as finished
+use Rattle.store.specs.Steps.{answerFor, wasMarked}
+use Rattle.store.specs.Finish.{finishRows, finishChecked, finishedOr, finishOf}
+use Rattle.promises.specs.Stores.{ours, Start, formatFor, Accepted}
+use Rattle.promises.specs.DemandOne.{OnlyStatus, Read as Reads, One, DemandOne}
+use Rattle.promises.proofs.Rows.{reads}
+
+-- ---- answers and outcomes
+
+pub answer-accepted : (kind : Kind) (marked : Bool) → Accepted (answerFor kind marked)
+answer-accepted Read true q h = let z : _≡_ {A = ℕ} 0 1 = cc in omega arith
+answer-accepted Read false q h = let z : _≡_ {A = ℕ} 0 1 = cc in omega arith
+answer-accepted Write marked q h = let z : _≡_ {A = ℕ} 0 1 = cc in omega arith
+
+pub finished-refused : (o : Outcome) (kind : Kind) (marked : Bool) (q : Refusal) → finishedOr o (answerFor kind marked) ≡ finished.Refused q → o ≡ Refused q
+finished-refused (Refused r) kind marked q h = cc
+finished-refused Done kind marked q h = absurd (answer-accepted kind marked q h)
+
+pub finished-done : (o : Outcome) (a : Finished) → Accepted (finishedOr o a) → o ≡ Done
+finished-done (Refused r) a h = absurd (h r refl)
+finished-done Done a h = refl
+
+pub asked-refused : (o : Outcome) (p : ℕ) (q : Refusal) → askedOf o p ≡ asked.Refused q → o ≡ Refused q
+asked-refused (Refused r) p q h = cc
+asked-refused Done p q h = let z : _≡_ {A = ℕ} 0 1 = cc in absurd (omega arith)
+
+-- ---- what a refusal changes
+
+only-status : (q : Refusal) (desk : List ℕ) → OnlyStatus q desk (stopped q desk)
+unfolding atStatus
+only-status BadDesk desk = (λ h. refl, λ h. absurd (omega arith))
+only-status Stopped desk = (λ h. refl, λ h. absurd (omega arith))
+only-status Open desk = (λ h. refl, λ h. absurd (omega arith))
+only-status NotOpen desk = (λ h. refl, λ h. absurd (omega arith))
+only-status BadId desk = (λ h. refl, λ h. absurd (omega arith))
+only-status BadLeaf desk = (λ h. refl, λ h. absurd (omega arith))
+only-status BadLength desk = (λ h. refl, λ h. absurd (omega arith))
+only-status BadSize desk = (λ h. refl, λ h. absurd (omega arith))
+only-status Forged desk = (λ h. absurd (omega arith), λ h. refl)
+only-status Worn desk = (λ h. absurd (omega arith), λ h. refl)
+only-status Full desk = (λ h. absurd (omega arith), λ h. refl)
+
+one : {R : Type 0} (determined : R) → One determined
+one determined r r′ p q = p ∙ sym q
+
+-- ---- entry by entry
+
+format-read : (b : Start) (lent : List ℕ)
+    → Reads (formatRows lent (b .sizes .height) (b .sizes .slots) (b .room) (b .ids) (b .key) (b .starts)) (formatFor b lent .answer) Refused
+unfolding formatChecked
+format-read b lent =
+    reads (formatRows lent (b .sizes .height) (b .sizes .slots) (b .room) (b .ids) (b .key) (b .starts)) (formatFor b lent .answer) Refused
+    (formatChecked lent (b .sizes .height) (b .sizes .slots) (b .room) (b .ids) (b .key) (b .starts)) refl (λ q h. h) (λ q h. h)
+
+format-same : (b : Start) (lent : List ℕ) (q : Refusal) → formatFor b lent .answer ≡ Refused q → formatFor b lent .desk ≡ lent
+format-same b lent q h =
+    ap (λ (o : Outcome). stoppedOr o lent (formatted (b .sizes .height) (b .sizes .slots) (b .room) (b .ids) (b .key) (b .starts))) h
+    ∙ format-spares lent (b .sizes .height) (b .sizes .slots) (b .room) (b .ids) (b .key) (b .starts) h lent
+
+ask-read : (desk : List ℕ) (kind : Kind) (id leaf : ℕ) (rec : List ℕ) → Reads (askRows desk kind id leaf rec) (askOf desk kind id leaf rec .answer) asked.Refused
+unfolding askChecked
+ask-read desk kind id leaf rec =
+    reads (askRows desk kind id leaf rec) (askOf desk kind id leaf rec .answer) asked.Refused (askChecked desk kind id leaf rec) refl
+    (asked-refused (askChecked desk kind id leaf rec) (positionOf desk id)) (λ q h. ap (λ (o : Outcome). askedOf o (positionOf desk id)) h)
+
+ask-same : (desk : List ℕ) (kind : Kind) (id leaf : ℕ) (rec : List ℕ) (q : Refusal)
+    → askOf desk kind id leaf rec .answer ≡ asked.Refused q → askOf desk kind id leaf rec .desk ≡ desk
+ask-same desk kind id leaf rec q h =
+    let e = asked-refused (askChecked desk kind id leaf rec) (positionOf desk id) q h in
+    ap (λ (o : Outcome). stoppedOr o desk (opened desk kind id leaf rec)) e ∙ ask-spares desk kind id leaf rec e desk
+
+finish-read : (m : Means) (desk path buffer : List ℕ) → Reads (finishRows m desk path buffer) (finishOf m desk path buffer .answer) finished.Refused
+unfolding finishChecked
+finish-read m desk path buffer =
+    reads (finishRows m desk path buffer) (finishOf m desk path buffer .answer) finished.Refused (finishChecked m desk path buffer) refl
+    (finished-refused (finishChecked m desk path buffer) (kindAsked desk) (wasMarked m desk path))
+    (λ q h. ap (λ (o : Outcome). finishedOr o (answerFor (kindAsked desk) (wasMarked m desk path))) h)
+
+pub finish-same : (m : Means) (desk path buffer : List ℕ) (q : Refusal) → finishOf m desk path buffer .answer ≡ finished.Refused q
+    → OnlyStatus q desk (finishOf m desk path buffer .desk) × (finishOf m desk path buffer .path ≡ path) × (finishOf m desk path buffer .buffer ≡ buffer)
+finish-same m desk path buffer q h =
+    let e : finishChecked m desk path buffer ≡ Refused q = finished-refused (finishChecked m desk path buffer) (kindAsked desk) (wasMarked m desk path) q h in
+    rw e (only-status q desk, refl, refl)
+
+tree-read : (s : Sizes) (leaf : ℕ) (tree path : List ℕ) → Reads (treeRows s leaf tree path) (treeChecked s leaf tree path) Refused
+unfolding treeChecked
+tree-read s leaf tree path = reads (treeRows s leaf tree path) (treeChecked s leaf tree path) Refused (treeChecked s leaf tree path) refl (λ q h. h) (λ q h. h)
+
+pub demand-one : (m : Means) → DemandOne m (ours m)
+demand-one m =
+    record {
+      format-reads = format-read;
+      format-refuses = format-same;
+      format-once = λ b lent. one (formatFor b lent);
+      ask-reads = ask-read;
+      ask-refuses = ask-same;
+      ask-once = λ desk kind id leaf rec. one (askOf desk kind id leaf rec);
+      finish-reads = finish-read m;
+      finish-refuses = finish-same m;
+      finish-once = λ desk path buffer. one (finishOf m desk path buffer);
+      fetch-reads = tree-read;
+      fetch-refuses = λ s leaf tree path q h. rw h (refl, refl);
+      fetch-once = λ s leaf tree path. one (fetchOf s leaf tree path);
+      put-reads = tree-read;
+      put-refuses = λ s leaf tree path q h. rw h (refl, refl);
+      put-once = λ s leaf tree path. one (putOf s leaf tree path);
+    }

@@ -1,0 +1,77 @@
+-- Demand 1: every entry gives one result on every input, the first refusal that applies, and a refusal changes nothing but, at 9, 10 and 11, the
+-- status byte. That the entries end, and meet these definitions, is their contracts. Assumes nothing.
+use Prim.Native.Nat.{ℕ, zero, suc, _-_, _<_, _≤_}
+use mathlib.Core.Path.{_≡_}
+use mathlib.Core.Logic.{_↔_}
+use mathlib.Core.Bool.{Bool, true, false}
+use mathlib.Core.List.{List, [], _∷_}
+use lib.ListN.{length, getD, set}
+use Rattle.sizes.specs.declared.Sizes.{Sizes}
+use Rattle.sizes.specs.declared.Refusal.{Refusal}
+use Rattle.sizes.specs.declared.Refusal.the-variants.{BadDesk}
+use Rattle.sizes.specs.declared.Outcome.{Outcome}
+use Rattle.sizes.specs.declared.Outcome.the-variants.{Done, Refused}
+use Rattle.sizes.specs.Refusals.{numberOf, firstOf}
+use Rattle.desk.specs.declared.Kind.{Kind}
+use Rattle.desk.specs.Layout.{statusAt}
+use Rattle.items.specs.Items.{Means}
+use Rattle.tree.specs.Tree.{TreeResult, treeRows, fetchOf, putOf}
+use Rattle.asks.specs.declared.Asked.the-variants as asked
+use Rattle.asks.specs.Ask.{AskResult, askRows}
+use Rattle.formats.specs.Format.{FormatResult, formatRows}
+use Rattle.store.specs.declared.Finished.the-variants as finished
+use Rattle.store.specs.Finish.{FinishResult, finishRows}
+use Rattle.promises.specs.Stores.{Store, Start, formatFor}
+
+-- ---- what a refusal changes
+
+-- nothing below number 9; from there on the status byte alone: it becomes 2, 3, 4
+abbrev pub OnlyStatus : Refusal → List ℕ → List ℕ → Type 0
+OnlyStatus q old new = (numberOf q < 9 → new ≡ old) × (9 ≤ numberOf q → new ≡ set old statusAt (numberOf q - 7))
+
+-- ---- the first refusal that applies: its row's test is true, and those of all rows before it are false
+
+pub record First (rows : List (Bool × Refusal)) (q : Refusal) : Type 0 where
+  pub row : ℕ
+  pub inside : row < length rows
+  pub applies : getD rows row (false, BadDesk) ≡ (true, q)
+  pub none-before : (i : ℕ) → i < row → getD rows i (false, BadDesk) .0 ≡ false
+
+-- of rows, how an answer reads: refused with q exactly if q is the first that applies; not refused exactly if none applies
+pub record Read {A : Type 0} (rows : List (Bool × Refusal)) (answer : A) (refused : Refusal → A) : Type 0 where
+  pub first : (q : Refusal) → (answer ≡ refused q) ↔ First rows q
+  pub none : ((q : Refusal) → answer ≡ refused q → ⊥) ↔ ((i : ℕ) → i < length rows → getD rows i (false, BadDesk) .0 ≡ false)
+
+-- ---- one result: two that an entry's statement allows are equal, answer and every buffer
+
+abbrev pub One : {R : Type 0} → R → Type 0
+One {R} determined = (r r′ : R) → r ≡ determined → r′ ≡ determined → r ≡ r′
+
+-- ---- the demand, entry by entry
+
+pub record DemandOne (m : Means) (store : Store) : Type 0 where
+  -- format
+  pub format-reads : (b : Start) (lent : List ℕ)
+      → Read (formatRows lent (b .sizes .height) (b .sizes .slots) (b .room) (b .ids) (b .key) (b .starts)) (formatFor b lent .answer) Refused
+  pub format-refuses : (b : Start) (lent : List ℕ) (q : Refusal) → formatFor b lent .answer ≡ Refused q → formatFor b lent .desk ≡ lent
+  pub format-once : (b : Start) (lent : List ℕ) → One (formatFor b lent)
+  -- ask
+  pub ask-reads : (desk : List ℕ) (kind : Kind) (id leaf : ℕ) (rec : List ℕ)
+      → Read (askRows desk kind id leaf rec) (store .ask desk kind id leaf rec .answer) asked.Refused
+  pub ask-refuses : (desk : List ℕ) (kind : Kind) (id leaf : ℕ) (rec : List ℕ) (q : Refusal)
+      → store .ask desk kind id leaf rec .answer ≡ asked.Refused q → store .ask desk kind id leaf rec .desk ≡ desk
+  pub ask-once : (desk : List ℕ) (kind : Kind) (id leaf : ℕ) (rec : List ℕ) → One (store .ask desk kind id leaf rec)
+  -- finish
+  pub finish-reads : (desk path buffer : List ℕ) → Read (finishRows m desk path buffer) (store .finish desk path buffer .answer) finished.Refused
+  pub finish-refuses : (desk path buffer : List ℕ) (q : Refusal) → store .finish desk path buffer .answer ≡ finished.Refused q
+      → OnlyStatus q desk (store .finish desk path buffer .desk) × (store .finish desk path buffer .path ≡ path) × (store .finish desk path buffer .buffer ≡ buffer)
+  pub finish-once : (desk path buffer : List ℕ) → One (store .finish desk path buffer)
+  -- fetch and put
+  pub fetch-reads : (s : Sizes) (leaf : ℕ) (tree path : List ℕ) → Read (treeRows s leaf tree path) (fetchOf s leaf tree path .answer) Refused
+  pub fetch-refuses : (s : Sizes) (leaf : ℕ) (tree path : List ℕ) (q : Refusal) → fetchOf s leaf tree path .answer ≡ Refused q
+      → (fetchOf s leaf tree path .tree ≡ tree) × (fetchOf s leaf tree path .path ≡ path)
+  pub fetch-once : (s : Sizes) (leaf : ℕ) (tree path : List ℕ) → One (fetchOf s leaf tree path)
+  pub put-reads : (s : Sizes) (leaf : ℕ) (tree path : List ℕ) → Read (treeRows s leaf tree path) (putOf s leaf tree path .answer) Refused
+  pub put-refuses : (s : Sizes) (leaf : ℕ) (tree path : List ℕ) (q : Refusal) → putOf s leaf tree path .answer ≡ Refused q
+      → (putOf s leaf tree path .tree ≡ tree) × (putOf s leaf tree path .path ≡ path)
+  pub put-once : (s : Sizes) (leaf : ℕ) (tree path : List ℕ) → One (putOf s leaf tree path)

@@ -1,0 +1,5 @@
+pub mod Stores
+pub mod Steps
+pub mod DemandOne
+pub mod DemandTwo
+pub mod DemandThree
