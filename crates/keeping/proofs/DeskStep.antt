@@ -63,7 +63,7 @@ module _ (m : Means) (o : Sound m) (desk path : List ℕ) (server : Server) (tab
 
   -- ---- what it holds
 
-  abbrev partsNow : Parts
+  abbrev pub partsNow : Parts
   partsNow =
       toStatus readyStatus (toRequest (zeros (cLen h)) (toRoot (newRoot m desk path) (toStash h bs (partsMoved m desk path server table good busy v asks fair))))
 

@@ -55,7 +55,7 @@ module _ (m : Means) (desk path : List ℕ) where
       let e : isWorn (viewOf desk) path (i .0) ≡ true = not-false (isWorn (viewOf desk) path (i .0)) (i .2) in
       (i .0, (omega (arith, i .1), and-left (reachable (viewOf desk) path (i .0)) _ e), eqb-true _ _ (and-right (reachable (viewOf desk) path (i .0)) _ e))
 
-  out-worn : WornOut m desk path → worn m desk path ≡ true
+  pub out-worn : WornOut m desk path → worn m desk path ≡ true
   unfolding worn
   out-worn w =
       let e : isWorn (viewOf desk) path (w .0) ≡ true = rw (w .1 .1, w .2, eq-eqb lastCounter lastCounter refl) refl in

@@ -4,3 +4,9 @@ pub mod Forged
 pub mod Exactly
 pub mod Moves
 pub mod Three
+pub mod Stands
+pub mod AskStep
+pub mod Past
+pub mod FinishStep
+pub mod Kept
+pub mod Two
