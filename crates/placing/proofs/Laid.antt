@@ -112,7 +112,7 @@ unfolding slotsBytes
 slots-none dst k bs e = rw e (splice-nil dst k)
 
 -- and zeros behind
-pick-fit : (h : ℕ) (ks : List ℕ) (bs : List Block) → AllFit recordLen bs → AllFit recordLen (pick h ks bs)
+pub pick-fit : (h : ℕ) (ks : List ℕ) (bs : List Block) → AllFit recordLen bs → AllFit recordLen (pick h ks bs)
 unfolding pick
 pick-fit h [] bs f = tt
 pick-fit h (k ∷ ks) [] f = tt

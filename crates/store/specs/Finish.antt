@@ -1,7 +1,7 @@
 -- Finish: what it answers and what the buffers then hold, on every input. Assumes nothing.
 use Prim.Native.Nat.{ℕ}
 use mathlib.Core.Bool.{Bool, not, _&&_}
-use mathlib.Core.List.{List, [], _∷_}
+use mathlib.Core.List.{List, [], _∷_, _++_}
 use lib.ListN.{length}
 use lib.Dec.{leb, ltb, eqb}
 use Rattle.sizes.specs.declared.Refusal.{Refusal}
@@ -20,17 +20,24 @@ use Rattle.store.specs.declared.Finished.{Finished}
 use Rattle.store.specs.declared.Finished.the-variants as finished
 use Rattle.store.specs.Steps.{answerFor, bufferFor, wasMarked, recordFound, newStash, newPath, newDesk}
 
--- the refusals of finish, in order
-abbrev pub finishRows : Means → List ℕ → List ℕ → List ℕ → List (Bool × Refusal)
-finishRows m desk path buffer =
+-- the refusals of finish, in order: those of the desk and the lent buffers, and those of the path
+abbrev pub entryRows : List ℕ → List ℕ → List ℕ → List (Bool × Refusal)
+entryRows desk path buffer =
     (not (goodDesk desk), BadDesk)
     ∷ (leb firstStopped (statusOf desk), Stopped)
     ∷ (eqb (statusOf desk) readyStatus, NotOpen)
     ∷ (not (eqb (length path) (pathLen (sizesOf desk)) && eqb (length buffer) recordLen), BadLength)
-    ∷ (not (genuine m desk path), Forged)
+    ∷ []
+
+abbrev pub pathRows : Means → List ℕ → List ℕ → List (Bool × Refusal)
+pathRows m desk path =
+    (not (genuine m desk path), Forged)
     ∷ (worn m desk path, Worn)
     ∷ (ltb (roomOf desk) (length (newStash m desk path)), Full)
     ∷ []
+
+abbrev pub finishRows : Means → List ℕ → List ℕ → List ℕ → List (Bool × Refusal)
+finishRows m desk path buffer = entryRows desk path buffer ++ pathRows m desk path
 
 unfoldable pub finishChecked : Means → List ℕ → List ℕ → List ℕ → Outcome
 finishChecked m desk path buffer = firstOf (finishRows m desk path buffer)

@@ -1,5 +1,16 @@
-// Finish.
+// Finish: the open request is answered over the path that the server handed back. Nothing lent is written before the last refusal is behind.
+use sizes::Outcome;
 use sizes::Refusal;
+use sizes::Sizes;
+ghost use mathlib.Core.Path.{_≡_};
+ghost use Prim.Native.Nat.{ℕ, _+_, _≤_};
+ghost use lib.ListN.{length};
+ghost use Rattle.sizes.specs.Refusals.{firstOf};
+ghost use Rattle.items.specs.Items.{Carries};
+ghost use Rattle.placing.specs.Bank.{Inside, blocksAt};
+ghost use Rattle.placing.specs.Walk.{pick};
+ghost use Rattle.store.specs.Finish.{entryRows};
+ghost use Rattle.store.specs.Laying.{Laid};
 
 // What a finish answers. A record goes to the lent buffer.
 pub enum Finished {
@@ -7,4 +18,43 @@ pub enum Finished {
     Never,
     Done,
     Refused(Refusal),
+}
+
+// The refusals that come before the path is looked at, in order.
+fn entry_checked(desk: &[u8], path: &[u8], record: &[u8]) -> Outcome
+    ensures { λ r. ⌜ r ≡ firstOf (entryRows (now (desk .entry)) (now (path .entry)) (now («record» .entry))) ⌝ }
+{
+    if !desk::good(desk) {
+        return Outcome::Refused(Refusal::BadDesk);
+    }
+    let status = desk[desk::STATUS];
+    if desk::FIRST_STOPPED <= status {
+        return Outcome::Refused(Refusal::Stopped);
+    }
+    if status == desk::READY {
+        return Outcome::Refused(Refusal::NotOpen);
+    }
+    let s = desk::sizes_of(desk);
+    let fits = (path.len() == s.path_len()) & (record.len() == Sizes::RECORD);
+    if !fits {
+        return Outcome::Refused(Refusal::BadLength);
+    }
+    Outcome::Done
+}
+
+// The slots of each bucket, laid into the working copy: the bucket of level `k` has the height L - k in the plan.
+fn lay(w: &mut [u8], s: Sizes, at: &[u8], places: &[u16], bank: &[u8])
+    requires { ⌜ Carries s (now w) × ((length (now places) ≤ length (now at)) × Inside (now bank) (now places)) ⌝ }
+    requires { ⌜ ((h : ℕ) → h ≤ s .height → length (pick h (now at) (blocksAt (now bank) (now places))) ≤ s .slots) ⌝ }
+    ensures { λ _. ⌜ Laid s (now (at .entry)) (blocksAt (now (bank .entry)) (now (places .entry))) (now (w .exit)) (s .height + 1) ⌝ }
+{
+    let levels = s.height + 1;
+    let mut k = 0;
+    while k < levels {
+        let a = s.item_at(k) + Sizes::COUNTER;
+        let z = s.slots;
+        let h = (s.height - k) as u8;
+        placing::bank::fill(w, a, z, h, at, places, bank);
+        k += 1;
+    }
 }
