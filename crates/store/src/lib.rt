@@ -1,16 +1,20 @@
 // Finish: the open request is answered over the path that the server handed back. Nothing lent is written before the last refusal is behind.
+use items::View;
 use sizes::Outcome;
 use sizes::Refusal;
 use sizes::Sizes;
 ghost use mathlib.Core.Path.{_≡_};
-ghost use Prim.Native.Nat.{ℕ, _+_, _≤_};
+ghost use Prim.Native.Nat.{ℕ, _+_, _≤_, _<_};
 ghost use lib.ListN.{length};
+ghost use Rattle.sizes.specs.Sizes.{leaves, pathLen};
 ghost use Rattle.sizes.specs.Refusals.{firstOf};
+ghost use Rattle.desk.specs.Layout.{Whole, idsOf, roomOf};
 ghost use Rattle.items.specs.Items.{Carries};
+ghost use Rattle.items.specs.Way.{Reached};
 ghost use Rattle.placing.specs.Bank.{Inside, blocksAt};
 ghost use Rattle.placing.specs.Walk.{pick};
 ghost use Rattle.store.specs.Finish.{entryRows};
-ghost use Rattle.store.specs.Laying.{Laid};
+ghost use Rattle.store.specs.Laying.{Laid, Writable, Accepted};
 
 // What a finish answers. A record goes to the lent buffer.
 pub enum Finished {
@@ -57,4 +61,33 @@ fn lay(w: &mut [u8], s: Sizes, at: &[u8], places: &[u16], bank: &[u8])
         placing::bank::fill(w, a, z, h, at, places, bank);
         k += 1;
     }
+}
+
+// Step 6, whole: the buckets laid into the working copy, the path written from it, the desk settled.
+fn accept(
+    desk: &mut [u8],
+    path: &mut [u8],
+    w: &mut [u8],
+    v: View,
+    n: usize,
+    id: usize,
+    leaf: u16,
+    mark: u8,
+    over: usize,
+    at: &[u8],
+    places: &[u16],
+    bank: &[u8],
+)
+    requires { ⌜ Whole (now desk) × ((1 ≤ id) × (id ≤ idsOf (now desk))) ⌝ }
+    requires { ⌜ Carries (v .sizes) (now path) × ((length (now path) ≡ pathLen (v .sizes)) × Carries (v .sizes) (now w)) ⌝ }
+    requires { ⌜ (v .leaf < leaves (v .sizes)) × Reached v (now path) n ⌝ }
+    requires { ⌜ (length (now places) ≤ length (now at)) × Inside (now bank) (now places) ⌝ }
+    requires { ⌜ Writable (v .sizes) (roomOf (now desk)) over (now at) (blocksAt (now bank) (now places)) ⌝ }
+    ensures { λ _. ⌜ Accepted v (now (path .entry)) (now (desk .entry)) (now (path .exit)) (now (desk .exit)) id leaf mark (now (at .entry)) (blocksAt (now (bank .entry)) (now (places .entry))) ⌝ }
+{
+    let s = v.sizes;
+    lay(w, s, at, places, bank);
+    let root = writing::write_path(path, w, v, n);
+    let h = (s.height + 1) as u8;
+    settling::settle(desk, id, leaf, mark, over, h, at, places, bank, &root);
 }
