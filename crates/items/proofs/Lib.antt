@@ -1,5 +1,5 @@
 pub mod Fields
 pub mod Digest
-pub mod Slots
+pub mod Sealing
 pub mod Sound
 pub mod Way

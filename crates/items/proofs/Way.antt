@@ -81,7 +81,11 @@ module _ (v : View) (path : List ℕ) where
     pub reached-above : n ≤ k → reachable v path k ≡ false
     reached-above l = reached .exactly k h ∙ le-ltb k n l
 
-  -- the digest in the parent of item k
+  -- the digest due of the root, and of a child: that in its parent
+  pub due-root : (k : ℕ) → k ≡ 0 → v .root ≡ digestDue v path k
+  due-root zero e = refl
+  due-root (suc k) e = absurd (omega arith)
+
   pub due-child : (k a n : ℕ) → 0 < k → k ≤ v .sizes .height → a ≡ itemAt (v .sizes) (k - 1) + digestAt (v .sizes) (side v (k - 1)) → n ≡ digestLen → part path a n ≡ digestDue v path k
   due-child zero a n h l e f = absurd (omega arith)
   due-child (suc k) a n h l e f =

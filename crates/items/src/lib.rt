@@ -6,11 +6,11 @@ ghost use mathlib.Core.Bool.{cond};
 ghost use Prim.Native.Nat.{_+_, _≤_, _<_};
 ghost use lib.ListN.{length, getD};
 ghost use lib.Dec.{eqb};
-ghost use Rattle.words.specs.Bytes.{part, splice, zeros};
+ghost use Rattle.words.specs.Bytes.{part, splice, zeros, same};
 ghost use Rattle.words.specs.Numbers.{number};
 ghost use Rattle.sizes.specs.Sizes.{leaves, counterLen, digestLen, itemAt, itemOf};
 ghost use Rattle.sha256.specs.Stream.{Grown};
-ghost use Rattle.items.specs.Items.{Carries, counterOf, flagOf, itemDigest, nonceOf, slotsOpened};
+ghost use Rattle.items.specs.Items.{Carries, counterOf, slotsOf, flagOf, itemDigest, nonceOf, slotsOpened};
 ghost use Rattle.items.specs.Way.{item, bucket, Reached, digestDue};
 ghost use Rattle.items.specs.Real.{real};
 
@@ -85,6 +85,17 @@ pub fn counter(path: &[u8], s: Sizes, k: usize) -> u64
     words::get64(path, s.item_at(k))
 }
 
+// The slots of the item at level `k`.
+pub fn slots(path: &[u8], s: Sizes, k: usize) -> &[u8]
+    requires { ⌜ Carries s (now path) × (k ≤ s .height) ⌝ }
+    ensures { λ r. ⌜ now r ≡ slotsOf s (itemOf s (now (path .entry)) k) ⌝ }
+{
+    let at = s.item_at(k);
+    let a = at + Sizes::COUNTER;
+    let e = at + s.leaf_len();
+    &path[a..e]
+}
+
 // The nonce of the item at `at`, whose bucket is given.
 fn nonce(path: &[u8], at: usize, bucket: usize) -> [u8; 12]
     requires { ⌜ at + counterLen ≤ length (now path) ⌝ }
@@ -130,17 +141,18 @@ pub fn reach(path: &[u8], v: View) -> usize
     s.height + 1
 }
 
-// The digest that the item at level `k` must have: the root digest, or the digest in its parent.
-pub fn digest_due<'a>(path: &'a [u8], root: &'a [u8], v: View, k: usize) -> &'a [u8]
-    requires { ⌜ Carries (v .sizes) (now path) × ((k ≤ v .sizes .height) × (now root ≡ v .root)) ⌝ }
-    ensures { λ r. ⌜ now r ≡ digestDue v (now (path .entry)) k ⌝ }
+// Whether `d` is the digest that the item at level `k` must have: the root digest, or the digest in its parent.
+pub fn is_due(d: &[u8], path: &[u8], v: View, k: usize) -> bool
+    requires { ⌜ Carries (v .sizes) (now path) × (k ≤ v .sizes .height) ⌝ }
+    ensures { λ r. ⌜ r ≡ same (now (d .entry)) (digestDue v (now (path .entry)) k) ⌝ }
 {
     if k == 0 {
-        return root;
+        let root = v.root;
+        return words::same(d, &root);
     }
     let s = v.sizes;
     let j = k - 1;
     let a = s.inner_at(j) + s.leaf_len() + Sizes::FLAGS + Sizes::DIGEST * s.side(v.leaf, j);
     let e = a + Sizes::DIGEST;
-    &path[a..e]
+    words::same(d, &path[a..e])
 }

@@ -1,27 +1,30 @@
 -- Finish, steps 1 and 2: what of a path is reachable, the blocks in it, the checks. Assumes nothing.
-use Prim.Native.Nat.{ℕ, zero, suc, _-_, _^_, _≤_, _<_}
+use Prim.Native.Nat.{ℕ, zero, suc, _+_, _-_, _^_, _≤_, _<_}
 use mathlib.Core.Path.{_≡_}
 use mathlib.Core.Bool.{Bool, true, false, cond, not, _&&_, _||_}
 use mathlib.Core.List.{List, [], _∷_, _++_}
+use lib.ListN.{drop}
 use lib.Dec.{eqb, leb, ltb}
 use Rattle.words.specs.Bytes.{same}
 use Rattle.words.specs.Tests.{all}
 use Rattle.bags.specs.Bags.{cnt, AllOf}
 use Rattle.slots.specs.Slots.{Block}
-use Rattle.desk.specs.Layout.{idsOf}
+use Rattle.desk.specs.Layout.{eAt, shapeOf, idsOf}
 use Rattle.desk.specs.Readers.{sizesOf, heightOf, keyOf, rootOf, writtenOf, idAsked, leafAsked, positionOf, isMarked, stashOf}
 use Rattle.items.specs.declared.View.{View}
 use Rattle.items.specs.Items.{Means, counterOf, flagOf, itemDigest, blocksIn}
 use Rattle.items.specs.Way.{item, bucket, reachable, digestDue}
-use Rattle.sizes.specs.Sizes.{bucketAt}
+use Rattle.sizes.specs.Sizes.{bucketAt, countLen}
 use Rattle.placing.specs.Placing.{onWay}
+pub use Rattle.placing.specs.Ids.{isId}
 
 -- what these steps read from the desk
 abbrev pub viewOf : List ℕ → View
 viewOf desk = record { sizes = sizesOf desk; key = keyOf desk; written = writtenOf desk; root = rootOf desk; leaf = leafAsked desk }
 
-abbrev pub isId : ℕ → Block → Bool
-isId id b = eqb (b .id) id
+-- the slots of the stash
+abbrev pub stashSlots : List ℕ → List ℕ
+stashSlots desk = drop (eAt (shapeOf desk) + countLen) desk
 
 -- the blocks in the item at level k, if it is reachable; in the first n items
 unfoldable pub foundAt : Means → View → List ℕ → ℕ → List Block
@@ -47,6 +50,20 @@ lastCounter = 2 ^ 64 - 1
 abbrev pub isWorn : View → List ℕ → ℕ → Bool
 isWorn v path k = reachable v path k && eqb (counterOf (item v path k)) lastCounter
 
+abbrev pub wornIn : View → List ℕ → Bool
+wornIn v path = not (all (suc (v .sizes .height)) (λ k. not (isWorn v path k)))
+
+-- of a block in a slot of level k: id at most N, marked, leaf equal to its position, the bucket on the way to that leaf
+abbrev pub isPlaced : List ℕ → ℕ → Block → Bool
+isPlaced desk k b =
+    leb (b .id) (idsOf desk) && isMarked desk (b .id) && eqb (b .leaf) (positionOf desk (b .id)) && onWay (sizesOf desk) (leafAsked desk) k b
+
+-- ---- 3. Looking up an id: the record part of its slot
+
+unfoldable pub lookup : ℕ → List Block → List ℕ
+lookup id [] = []
+lookup id (b ∷ bs) = cond (isId id b) (b .bytes) (lookup id bs)
+
 module _ (m : Means) (desk path : List ℕ) where
   abbrev pub found : ℕ → List Block
   found k = foundAt m (viewOf desk) path k
@@ -55,11 +72,9 @@ module _ (m : Means) (desk path : List ℕ) where
   unfoldable pub gathered : List Block
   gathered = foundTo m (viewOf desk) path (suc (heightOf desk)) ++ stashOf desk
 
-  -- of a block in a slot of level k: id at most N, marked, leaf equal to its position, the bucket on the way to that leaf, the id nowhere else
+  -- of a block in a slot of level k: it is placed, and its id is nowhere else
   abbrev pub blockFits : ℕ → Block → Bool
-  blockFits k b =
-      leb (b .id) (idsOf desk) && isMarked desk (b .id) && eqb (b .leaf) (positionOf desk (b .id))
-      && onWay (sizesOf desk) (leafAsked desk) k b && eqb (cnt (isId (b .id)) gathered) 1
+  blockFits k b = isPlaced desk k b && eqb (cnt (isId (b .id)) gathered) 1
 
   abbrev pub eachFits : ℕ → List Block → Bool
   eachFits k [] = true
@@ -69,6 +84,10 @@ module _ (m : Means) (desk path : List ℕ) where
   abbrev pub isThere : Bool
   isThere = not (isMarked desk (idAsked desk)) || ltb 0 (cnt (isId (idAsked desk)) gathered)
 
+  -- all that is asked of the opened slots
+  abbrev pub slotsFit : Bool
+  slotsFit = all (suc (heightOf desk)) (λ k. eachFits k (found k)) && isThere
+
   -- all of them
   unfoldable pub genuine : Bool
   genuine =
@@ -76,7 +95,7 @@ module _ (m : Means) (desk path : List ℕ) where
       && all (suc (heightOf desk)) (λ k. eachFits k (found k)) && isThere
 
   unfoldable pub worn : Bool
-  worn = not (all (suc (heightOf desk)) (λ k. not (isWorn (viewOf desk) path k)))
+  worn = wornIn (viewOf desk) path
 
   -- ---- the same checks, one by one
 

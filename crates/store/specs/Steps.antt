@@ -13,15 +13,11 @@ use Rattle.desk.specs.Status.{readyStatus, atStatus}
 use Rattle.desk.specs.Changes.{withRequest, withPlace, withRoot, withStash}
 use Rattle.items.specs.Items.{Means}
 use Rattle.opening.specs.Opening.{viewOf, isId, gathered}
+unfoldable pub use Rattle.opening.specs.Opening.{lookup}
 use Rattle.writing.specs.Writing.{pathWritten, rootWritten}
 use Rattle.placing.specs.Placing.{sorted, placedIn, remaining}
 use Rattle.store.specs.declared.Finished.{Finished}
 use Rattle.store.specs.declared.Finished.the-variants as finished
-
--- the record part of the slot with this id
-unfoldable pub lookup : ℕ → List Block → List ℕ
-lookup id [] = []
-lookup id (b ∷ bs) = cond (isId id b) (b .bytes) (lookup id bs)
 
 -- ---- 3. Answer, by the kind and whether the id is marked
 

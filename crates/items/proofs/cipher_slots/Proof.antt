@@ -6,7 +6,7 @@ use Rattle.words.specs.Bytes.{part}
 use Rattle.sizes.specs.Sizes.{counterLen}
 use Rattle.items.specs.Items.{nonceOf}
 use Rattle.items.specs.Way.{bucket}
-use Rattle.items.proofs.Slots.{slots-given}
+use Rattle.items.proofs.Sealing.{slots-given}
 use borrow.Author.Needs.{needs}
 use Rattle.items.proofs.cipher_slots.Statement.{statement}
 use Rattle.items.proofs.cipher_slots.Tie as tie

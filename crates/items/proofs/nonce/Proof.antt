@@ -2,7 +2,7 @@
 use Prim.Native.Nat.{ℕ, _+_, _-_}
 use mathlib.Core.Path.{_≡_, sym, ap, _∙_}
 use native.Mathlib.Omega.{arith}
-use Rattle.items.proofs.Slots.{nonce-given}
+use Rattle.items.proofs.Sealing.{nonce-given}
 use borrow.Author.Needs.{needs}
 use Rattle.items.proofs.nonce.Statement.{statement}
 use Rattle.items.proofs.nonce.Tie as tie

@@ -9,10 +9,11 @@ use Rattle.words.specs.Numbers.{bytesOf}
 use Rattle.words.proofs.Splice.{spliced, length-part, length-zeros, splice-next, splice-whole}
 use Rattle.words.proofs.Numbers.{length-bytesOf}
 use Rattle.sizes.specs.declared.Sizes.{Sizes}
-use Rattle.sizes.specs.Sizes.{itemAt, itemOf, counterLen, slotsLen}
-use Rattle.items.specs.Items.{bucketBytes, nonceOf, counterBytes, slotsOf, slotsOpened}
+use Rattle.sizes.specs.Sizes.{leafLen, itemAt, itemOf, counterLen, slotsLen}
+use Rattle.sizes.proofs.Lengths.{item-fits}
+use Rattle.items.specs.Items.{Carries, bucketBytes, nonceOf, counterBytes, slotsOf, slotsOpened}
 use Rattle.items.specs.Real.{real}
-use Rattle.items.proofs.Fields.{counter-bytes, slots-of}
+use Rattle.items.proofs.Fields.{item-long, counter-bytes, slots-of}
 use Rattle.items.proofs.Sound.{real-sound}
 
 -- the nonce, in two parts
@@ -36,3 +37,14 @@ slots-given s key nonce xs ys k b at a n e₁ e₂ e₃ h f g =
     let is : slotsOpened real s key b (itemOf s xs k) ≡ ys =
     ap₂ (λ (i j : List ℕ). real .cipher key (nonceOf i b) j) c p ∙ ap (λ (i : List ℕ). real .cipher key i (part xs a n)) (sym f) ∙ sym g in
     spliced xs a n ys l ∙ rw (e₂, is)
+
+-- their lengths
+pub length-slots : (s : Sizes) (xs : List ℕ) (k : ℕ) → itemAt s k + leafLen s ≤ length xs → length (slotsOf s (itemOf s xs k)) ≡ slotsLen s
+length-slots s xs k h = ap length (slots-of s xs k) ∙ length-part xs (itemAt s k + counterLen) (slotsLen s) (omega arith)
+
+pub length-opened : (s : Sizes) (key xs : List ℕ) (k b : ℕ) → itemAt s k + leafLen s ≤ length xs → length (slotsOpened real s key b (itemOf s xs k)) ≡ slotsLen s
+length-opened s key xs k b h =
+    real-sound .cipher-length key (nonceOf (counterBytes (itemOf s xs k)) b) (slotsOf s (itemOf s xs k)) ∙ length-slots s xs k h
+
+pub carried-slots : (s : Sizes) (xs : List ℕ) (k : ℕ) → Carries s xs → k ≤ s .height → length (slotsOf s (itemOf s xs k)) ≡ slotsLen s
+carried-slots s xs k c h = length-slots s xs k (omega (arith, c .room, item-fits s k h, item-long s xs k))
