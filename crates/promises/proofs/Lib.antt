@@ -10,3 +10,5 @@ pub mod Past
 pub mod FinishStep
 pub mod Kept
 pub mod Two
+pub mod TreeHolds
+pub mod Trees

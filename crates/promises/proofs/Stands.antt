@@ -55,7 +55,7 @@ pub record Stands (m : Means) (b : Start) (st : State) : Type 0 where
 
 -- ---- after format
 
-none-some : (r : List ℕ) → none ≡ some r → ⊥
+pub none-some : (r : List ℕ) → none ≡ some r → ⊥
 none-some r e = no-true (sym (ap isHeld e))
 
 abbrev beginAt : Start → List ℕ → State
