@@ -15,6 +15,7 @@ pub mod Written
 pub mod TreeStep
 pub mod StandStep
 pub mod Positions
+pub mod Levels
 pub mod PlacedStep
 pub mod Carry
 pub mod DeskStep

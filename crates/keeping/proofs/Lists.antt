@@ -56,6 +56,11 @@ module _ {A : Type 0} where
       (λ e. byCases (t x) (λ f. rw (e, f) (omega (arith, cnt-and q t xs))) (λ f. rw (e, f) (omega (arith, cnt-and q t xs))))
       (λ e. rw e (omega (arith, cnt-and q t xs)))
 
+  -- each passes or fails
+  pub cnt-both : (q : A → Bool) (xs : List A) → cnt (λ x. true) xs ≡ cnt q xs + cnt (λ x. not (q x)) xs
+  cnt-both q [] = refl
+  cnt-both q (x ∷ xs) = byCases (q x) (λ e. rw e (omega (arith, cnt-both q xs))) (λ e. rw e (omega (arith, cnt-both q xs)))
+
   pub those-none : (t : A → Bool) (xs : List A) → cnt t xs ≡ 0 → those t xs ≡ []
   unfolding those
   those-none t [] h = refl

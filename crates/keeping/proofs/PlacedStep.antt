@@ -14,11 +14,9 @@ use Rattle.words.specs.Numbers.{number}
 use Rattle.words.specs.Tests.{every, Each}
 use Rattle.words.proofs.Splice.{length-part}
 use Rattle.words.proofs.Tests.{byCases, each, every-of}
-use Rattle.sizes.specs.declared.Sizes.{Sizes}
-use Rattle.sizes.specs.Sizes.{leaves, recordLen, requestHead, placeIn, bucketAt, sized}
+use Rattle.sizes.specs.Sizes.{leaves, recordLen, requestHead}
 use Rattle.sizes.proofs.Lengths.{leaves-most}
 use Rattle.bags.specs.Bags.{cnt, those, flat, All, AllOf}
-use Rattle.bags.proofs.Bags.{cnt-append}
 use Rattle.slots.specs.Slots.{Block, Fits, AllFit}
 use Rattle.desk.specs.declared.Kind.{Kind}
 use Rattle.desk.specs.declared.Kind.the-variants.{Read, Write}
@@ -36,8 +34,7 @@ use Rattle.desk.proofs.Read.{read-position, read-mark}
 use Rattle.desk.proofs.Exactly.{good-conditions}
 use Rattle.items.specs.Items.{Means}
 use Rattle.opening.specs.Opening.{viewOf, isId}
-use Rattle.placing.specs.Filling.{Within}
-use Rattle.placing.specs.Placing.{onWay, levels, sorted}
+use Rattle.placing.specs.Placing.{onWay, sorted}
 use Rattle.placing.specs.Ids as ids
 use Rattle.placing.proofs.Rising.{sorted-rising}
 use Rattle.placing.proofs.Placing.{placed-within, placed-small, remaining-rising}
@@ -45,7 +42,8 @@ use Rattle.store.specs.Steps as steps
 use Rattle.store.specs.Steps.{markFor, wasMarked, placed, newStash}
 use Rattle.keeping.specs.Server.{Server, Agrees}
 use Rattle.keeping.specs.Table.{Table, isHeld, plainHeld, blockOf, tableBlocks}
-use Rattle.keeping.proofs.Lists.{no-true, all-map, all-pass}
+use Rattle.keeping.proofs.Lists.{all-map, all-pass}
+use Rattle.keeping.proofs.Levels.{cnt-one, within-length, within-at, on-place}
 use Rattle.keeping.proofs.Held.{none-of, few}
 use Rattle.keeping.proofs.Genuine.{Inv, Asks}
 use Rattle.keeping.proofs.Plain.{some-inj}
@@ -53,35 +51,6 @@ use Rattle.keeping.proofs.BagStep.{gatheredNow, placed-now}
 use Rattle.keeping.proofs.TableStep.{tableAfter, bag-after}
 use Rattle.keeping.proofs.Positions.{moved-self, moved-other, marked-self, marked-other}
 use Rattle.keeping.proofs.Written.{Lies}
-
--- ---- buckets by their level
-
--- one of several lists
-cnt-one : {A : Type 0} (t : A → Bool) (xs : List (List A)) (h : ℕ) → cnt t (getD xs h []) ≤ cnt t (flat xs)
-cnt-one t [] h = omega arith
-cnt-one t (x ∷ xs) zero = omega (arith, cnt-append t x (flat xs))
-cnt-one t (x ∷ xs) (suc h) = omega (arith, cnt-append t x (flat xs), cnt-one t xs h)
-
-within-length : (z : ℕ) (s : Sizes) (leaf k : ℕ) (bs : List (List Block)) → Within z (levels s leaf k) bs → length bs ≡ suc k
-within-length z s leaf zero [] w = absurd w
-within-length z s leaf zero (b ∷ []) w = refl
-within-length z s leaf zero (b ∷ (c ∷ bs)) w = absurd (w .2)
-within-length z s leaf (suc k) [] w = absurd w
-within-length z s leaf (suc k) (b ∷ bs) w = ap suc (within-length z s leaf k bs (w .2))
-
-within-at : (z : ℕ) (s : Sizes) (leaf k : ℕ) (bs : List (List Block)) → Within z (levels s leaf k) bs → (h : ℕ) → h ≤ k → All (onWay s leaf (k - h)) (getD bs h [])
-within-at z s leaf zero [] w h l = absurd w
-within-at z s leaf zero (b ∷ bs) w zero l = let e : 0 - 0 ≡ 0 = omega arith in rw e (w .1)
-within-at z s leaf zero (b ∷ bs) w (suc h) l = absurd (omega arith)
-within-at z s leaf (suc k) [] w h l = absurd w
-within-at z s leaf (suc k) (b ∷ bs) w zero l = let e : suc k - 0 ≡ suc k = omega arith in rw e (w .1)
-within-at z s leaf (suc k) (b ∷ bs) w (suc h) l = let e : suc k - suc h ≡ k - h = omega arith in rw e (within-at z s leaf k bs (w .2) h (omega arith))
-
-on-place : (s : Sizes) (leaf k : ℕ) (bs : List Block) → All (onWay s leaf k) bs → AllOf (λ b. placeIn s (b .leaf) k ≡ placeIn s leaf k) bs
-on-place s leaf k [] a = tt
-on-place s leaf k (b ∷ bs) a =
-    let e : bucketAt s (b .leaf) k ≡ bucketAt s leaf k = eqb-true _ _ (a .0) in
-    (omega arith, on-place s leaf k bs (a .1))
 
 -- ---- marks after a request
 
@@ -105,7 +74,7 @@ module _ (m : Means) (desk path : List ℕ) (server : Server) (table : Table) (g
   mark = markFor (kindAsked desk) (wasMarked m desk path)
 
   -- the desk with the place written
-  abbrev moved : List ℕ
+  abbrev pub moved : List ℕ
   moved = withPlace id (newLeaf desk) mark desk
 
   abbrev pub partsMoved : Parts
@@ -128,7 +97,7 @@ module _ (m : Means) (desk path : List ℕ) (server : Server) (table : Table) (g
 
   -- ---- the new table and the new places
 
-  abbrev after : Table
+  abbrev pub after : Table
   after = tableAfter desk table
 
   wasMarked-is : wasMarked m desk path ≡ isHeld (table id)
@@ -211,7 +180,7 @@ module _ (m : Means) (desk path : List ℕ) (server : Server) (table : Table) (g
       ap not e)
       (idsOf desk) (omega arith)
 
-  bag : (t : Block → Bool)
+  pub bag : (t : Block → Bool)
       → cnt t (flat (placed m desk path)) + cnt t (newStash m desk path) ≤ cnt t (tableBlocks moved after (idsOf desk))
   bag t = omega (arith, bag-after m desk path server table v asks fair moved (position-new moved-changed refl) (position-old moved-changed refl) t)
 

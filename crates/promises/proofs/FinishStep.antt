@@ -33,13 +33,14 @@ use Rattle.opening.specs.Opening.{viewOf, lastCounter, worn, Genuine}
 use Rattle.asks.specs.Ask.{recordBytes}
 use Rattle.store.specs.declared.Finished.{Finished}
 use Rattle.store.specs.declared.Finished.the-variants as finished
-use Rattle.store.specs.Steps.{newPath, newDesk}
+use Rattle.store.specs.Steps.{placed, newPath, newDesk}
 use Rattle.store.specs.Finish.{finishOf, finishChecked, finishBy, FinishResult}
 use Rattle.keeping.specs.Server.{Server, Agrees, wrote}
 use Rattle.keeping.specs.Table.{Table, plainTable}
 use Rattle.keeping.proofs.Genuine.{Inv, Asks}
 use Rattle.keeping.proofs.TableStep.{tableAfter}
-use Rattle.keeping.proofs.PlacedStep.{position-new, position-old}
+use Rattle.keeping.proofs.PlacedStep.{position-new, position-old, laid}
+use Rattle.keeping.proofs.Written.{path-length}
 use Rattle.keeping.proofs.DeskStep.{partsNow, now-changed, now-good, inv-after}
 use Rattle.keeping.proofs.Carry.{inv-kept}
 use Rattle.keeping.proofs.Lists.{no-true}
@@ -120,6 +121,11 @@ module _ (m : Means) (o : Sound m) (b : Start) (byte : b .room < 256) (st : Stat
 
     pub changed : Changed desk now (partsNow m o desk path (st .server) (st .table) (v .good) busy (v .inv) asks fair (t .fits) small fresh)
     changed = now-changed m o desk path (st .server) (st .table) (v .good) busy (v .inv) asks fair (t .fits) small fresh
+
+    pub path-size : length (newPath m desk path) ≡ pathLen (b .sizes)
+    path-size =
+        subst (λ (z : Sizes). length (newPath m desk path) ≡ pathLen z) (v .sizes)
+        (path-length m o (viewOf desk) path (placed m desk path) (fair .size) (laid m desk path (st .server) (st .table) (v .good) busy (v .inv) asks fair))
 
     position-is : (u : ℕ) → 1 ≤ u → u ≤ b .ids → positionOf now u ≡ st .drawn u
     position-is u g l =

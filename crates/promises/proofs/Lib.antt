@@ -12,3 +12,6 @@ pub mod Kept
 pub mod Two
 pub mod TreeHolds
 pub mod Trees
+pub mod Exists
+pub mod More
+pub mod Wrong

@@ -20,11 +20,9 @@ use Rattle.asks.specs.declared.Asked.{Asked}
 use Rattle.asks.specs.declared.Asked.the-variants as asked
 use Rattle.store.specs.declared.Finished.{Finished}
 use Rattle.store.specs.declared.Finished.the-variants as finished
-use Rattle.store.specs.Steps.{placed, newPath}
+use Rattle.store.specs.Steps.{newPath}
 use Rattle.store.specs.Finish.{finishOf, finishChecked}
 use Rattle.keeping.specs.Server.{Server, Returns, Agrees, wrote}
-use Rattle.keeping.proofs.PlacedStep.{laid}
-use Rattle.keeping.proofs.Written.{path-length}
 use Rattle.promises.specs.Stores.{ours, Start, formatFor, Request}
 use Rattle.promises.specs.Steps.{State, begin, askFor, afterAsk, afterFinish}
 use Rattle.promises.specs.DemandTwo.{Ready}
@@ -34,7 +32,7 @@ use Rattle.promises.proofs.Three.{accept-record, accept-never, accept-d
 use Rattle.promises.proofs.Past.{Through, done-through}
 use Rattle.promises.proofs.Stands.{Stands, none-some, begin-stands}
 use Rattle.promises.proofs.AskStep.{ask-stands}
-use Rattle.promises.proofs.FinishStep.{asks-of, busy, asks, finish-stands}
+use Rattle.promises.proofs.FinishStep.{asks-of, path-size, finish-stands}
 use Rattle.promises.proofs.Kept.{kept}
 use Rattle.promises.proofs.Two.{returned-agrees}
 use Rattle.promises.proofs.TreeHolds.{Holds, fetch-returns, fetch-length, put-holds}
@@ -76,13 +74,10 @@ module _ (m : Means) (o : Sound m) (b : Start) (byte : b .room < 256) where
           let s = t .ready .status in
           let l : length path ≡ pathLen (b .sizes) = subst (λ (z : Sizes). length path ≡ pathLen z) (v .stands .sizes) (t .ready .path-length) in
           let fair = fetched-agrees s lent l in
-          let w = v .stands in
-          let n : length (newPath m (st .desk) path) ≡ pathLen (sizesOf (st .desk)) =
-          path-length m o (viewOf (st .desk)) path (placed m (st .desk) path) (fair .size)
-          (laid m (st .desk) path (st .server) (st .table) (w .good) (busy m o b byte st w path buffer t fair) (w .inv) (asks m o b byte st w path buffer t fair) fair) in
+          let n = path-size m o b byte st (v .stands) path buffer t fair in
           let e : finishOf m (st .desk) path buffer .path ≡ newPath m (st .desk) path = ap (λ (x : Outcome). keptOr x path (newPath m (st .desk) path)) c in
           put-holds (b .sizes) (st .leaf-asked) (st .server) (ts .tree) range (leaf-low s) (v .holds) (finishOf m (st .desk) path buffer .path)
-          (ap length e ∙ subst (λ (z : Sizes). length (newPath m (st .desk) path) ≡ pathLen z) (w .sizes) n)
+          (ap length e ∙ n)
 
       served-both : Both (served (ours m) (b .sizes) ts path buffer)
       served-both =

@@ -4,3 +4,6 @@ pub mod DemandOne
 pub mod DemandTwo
 pub mod Trees
 pub mod DemandThree
+pub mod Exists
+pub mod Wrong
+pub mod Figures
