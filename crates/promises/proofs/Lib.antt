@@ -15,3 +15,4 @@ pub mod Trees
 pub mod Exists
 pub mod More
 pub mod Wrong
+pub mod Echo
