@@ -1,12 +1,12 @@
 -- There are runs: what stands after format, and at the first request. Assumes nothing but what is asked of digest and cipher.
 use Prim.Native.Nat.{ℕ, zero, suc, _+_, _-_, _<_, _≤_}
-use mathlib.Core.Path.{_≡_, refl, sym, ap, subst, _∙_}
+use mathlib.Core.Path.{_≡_, refl, sym, ap, ap₂, subst, _∙_}
 use mathlib.Core.Logic.{_≢_}
 use mathlib.Core.Bool.{Bool, true, false, not, _&&_}
 use mathlib.Core.Option.{none, some}
 use mathlib.Core.List.{List, [], _∷_}
 use native.Mathlib.Omega.{arith}
-use lib.ListN.{length, getD}
+use lib.ListN.{length, getD, drop}
 use lib.Dec.{eqb, ltb}
 use borrow.Author.Tests.{eq-eqb, ne-eqb, lt-ltb, eqb-true}
 use Rattle.words.specs.Tests.{all}
@@ -29,7 +29,7 @@ use Rattle.items.specs.Way.{reachable}
 use Rattle.opening.specs.Opening.{viewOf, isId}
 use Rattle.asks.specs.declared.Asked.{Asked}
 use Rattle.asks.specs.declared.Asked.the-variants as asked
-use Rattle.asks.specs.Ask.{askOf, opened}
+use Rattle.asks.specs.Ask.{recordFits, askOf, opened}
 use Rattle.asks.proofs.Passed.{AskPassed}
 use Rattle.asks.proofs.Opened.{opened-changed}
 use Rattle.formats.specs.Format.{formatRows, formatChecked, formatted}
@@ -44,6 +44,7 @@ use Rattle.promises.specs.Stores.{ours, Start, formatFor, Request, Accep
 use Rattle.promises.specs.Steps.{State, begin, asks, afterAsk, askFor, finishFor, returned}
 use Rattle.promises.specs.Steps as steps
 use Rattle.promises.specs.DemandTwo.{Ready, WornOut, Kept}
+use Rattle.promises.specs.DemandThree.{Around, finishThen, shownIf, goOn, shows, Run, leavesOf}
 use Rattle.promises.specs.Exists.{Proper, InBounds, Exists}
 use Rattle.promises.proofs.Three.{passed, format-desk}
 use Rattle.promises.proofs.Moves.{leaf-asked}
@@ -198,6 +199,29 @@ module _ (m : Means) (o : Sound m) (b : Start) (lent : List ℕ) (p : Proper b l
           let q = kept m o b (p .room-byte) first first-stands (returned b first) (returned-agrees m o b (p .room-byte) first first-stands) in
           q .otherwise path buffer anything first-ready first-not-worn (omega (arith, first-few))
 
+-- ---- a run of demand 3
+
+shows-one : (a : Asked) (p : ℕ) (more : ℕ → List ℕ) → a ≡ asked.Leaf p → shownIf a (λ p. p ∷ more p) ≡ p ∷ more p
+shows-one a p more e = ap (λ (a : Asked). shownIf a (λ p. p ∷ more p)) e
+
+run-shows : (m : Means) (n : ℕ) (draws : List ℕ) (r : Run n draws) (u x : ℕ) (us xs : List ℕ) (e : Around) (es : List Around)
+    → 0 < u → u ≤ n → drop n draws ≡ x ∷ xs → r .around ≡ e ∷ es → x < leaves (r .start .sizes) → recordFits recordLen (e .kind) (e .content) ≡ true
+    → 0 < length (leavesOf (ours m) n (u ∷ us) draws r)
+unfolding shows
+run-shows m n draws r u x us xs e es g l dr ar lx fits =
+    let b = r .start in
+    let st = begin b (r .lent) in
+    let v = begin-stands m b (r .lent) (r .formats) in
+    let q : Request = record { kind = e .kind; id = u; leaf = x; content = e .content } in
+    let ready : statusOf (st .desk) ≡ readyStatus =
+    ap statusOf (format-desk b (r .lent) (r .formats)) ∙ new-status (r .lent) (b .sizes .height) (b .sizes .slots) (b .room) (b .ids) (b .key) (b .starts) (passed b (r .lent) (r .formats)) in
+    let a = ask-takes m b st v ready q g (rw (r .ids) l) lx fits in
+    let more : ℕ → List ℕ = λ p. goOn (finishThen (ours m) (st .desk) u x e .answer) (shows (ours m) (finishThen (ours m) (st .desk) u x e .desk) us xs es) in
+    let w : leavesOf (ours m) n (u ∷ us) draws r ≡ st .drawn u ∷ more (st .drawn u) =
+    ap₂ (λ (ds : List ℕ) (ws : List Around). shows (ours m) (st .desk) (u ∷ us) ds ws) dr ar
+    ∙ shows-one (askOf (st .desk) (e .kind) u x (e .content) .answer) (st .drawn u) more a in
+    omega (arith, ap length w)
+
 pub exists : (m : Means) → Sound m → Exists (ours m)
 exists m o =
     record {
@@ -207,4 +231,5 @@ exists m o =
       first-finish =
           λ b lent p w r i path buffer l k.
           subst (λ (x : State). Accepted (finishFor (ours m) x path buffer .answer)) (sym (first-is m o b lent p r i)) (first-accepted m o b lent p r i path buffer l k w);
+      first-shown = λ n draws run u x us xs e es. run-shows m n draws run u x us xs e es;
     }

@@ -16,3 +16,5 @@ pub mod Exists
 pub mod More
 pub mod Wrong
 pub mod Echo
+pub mod Promises
+pub mod Real

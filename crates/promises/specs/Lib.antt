@@ -7,3 +7,4 @@ pub mod DemandThree
 pub mod Exists
 pub mod Wrong
 pub mod Figures
+pub mod Promises

@@ -1,4 +1,4 @@
--- Six wrong stores, to try the demands on: each is shut out. Assumes nothing.
+-- Six wrong stores, to try the demands on: demand 2 shuts out each. Assumes nothing.
 use Prim.Native.Nat.{ℕ}
 use mathlib.Core.Bool.{Bool, true, false}
 use mathlib.Core.List.{List}
@@ -20,6 +20,7 @@ use Rattle.store.specs.declared.Finished.the-variants as finished
 use Rattle.store.specs.Steps.{answerFor, wasMarked, newPath}
 use Rattle.store.specs.Finish.{FinishResult, finishOf, finishChecked}
 use Rattle.promises.specs.Stores.{Store}
+use Rattle.promises.specs.DemandTwo.{DemandTwo}
 
 -- refuses always
 abbrev pub refusing : Store
@@ -89,3 +90,11 @@ zeroing m =
       ask = λ desk kind id leaf rec. result (leafZero (askOf desk kind id leaf rec .answer)) (askOf desk kind id leaf rec .desk);
       finish = finishOf m;
     }
+
+pub record ShutOut (m : Means) : Type 0 where
+  pub refuses-always : DemandTwo m refusing → ⊥
+  pub answers-never : DemandTwo m (denying m) → ⊥
+  pub changes-nothing : DemandTwo m (idle m) → ⊥
+  pub only-echoes : DemandTwo m (echoing m) → ⊥
+  pub invents-counters : DemandTwo m (inventing m) → ⊥
+  pub asks-for-zero : DemandTwo m (zeroing m) → ⊥

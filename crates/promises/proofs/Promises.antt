@@ -1,0 +1,40 @@
+-- All that is promised holds, whatever digest of 32 bytes and whatever cipher that keeps the length and undoes itself. Assumes nothing else.
+use Rattle.items.specs.Items.{Means, Sound}
+use Rattle.promises.specs.Figures.{figures}
+use Rattle.promises.specs.Promises.{Promises}
+use Rattle.promises.specs.Wrong.{ShutOut}
+use Rattle.promises.proofs.One.{demand-one}
+use Rattle.promises.proofs.Exactly.{exactly}
+use Rattle.promises.proofs.Two.{demand-two, demand-two-reachable}
+use Rattle.promises.proofs.Trees.{demand-two-tree}
+use Rattle.promises.proofs.Three.{demand-three, shown-once, shown-last-drawn}
+use Rattle.promises.proofs.Exists.{exists}
+use Rattle.promises.proofs.Wrong.{refusing-out, denying-out, idle-out, inventing-out, zeroing-out}
+use Rattle.promises.proofs.Echo.{echoing-out}
+
+shut-out : (m : Means) → Sound m → ShutOut m
+shut-out m o =
+    record {
+      refuses-always = refusing-out m o;
+      answers-never = denying-out m o;
+      changes-nothing = idle-out m o;
+      only-echoes = echoing-out m o;
+      invents-counters = inventing-out m o;
+      asks-for-zero = zeroing-out m o;
+    }
+
+pub promises : (m : Means) → Sound m → Promises m
+promises m o =
+    record {
+      one = demand-one m;
+      exactly = exactly m;
+      two = demand-two m o;
+      two-reachable = demand-two-reachable m o;
+      two-tree = demand-two-tree m o;
+      three = demand-three m (o .digest-length) m (o .digest-length);
+      shown-once = shown-once m (o .digest-length);
+      shown-last = shown-last-drawn m (o .digest-length);
+      exists = exists m o;
+      shut-out = shut-out m o;
+      figures = figures;
+    }
