@@ -1,8 +1,9 @@
 -- The heights that blocks are given by the walk are those of the buckets that placing puts them in. Assumes nothing.
 use Prim.Native.Nat.{ℕ, zero, suc, _+_, _-_, _/_, _^_, _≤_, _<_}
-use mathlib.Core.Path.{_≡_, refl, sym, ap, _∙_}
+use mathlib.Core.Path.{_≡_, refl, sym, ap, ap₂, _∙_}
 use mathlib.Core.Bool.{Bool, true, false, _&&_}
 use mathlib.Core.List.{List, [], _∷_}
+use native.Mathlib.Nat.{div-div-eq-div-mul, div-one, pow-suc}
 use native.Mathlib.Omega.{arith}
 use native.Mathlib.Numerals.{add-one}
 use lib.ListN.{length, drop, getD, getD-replicate, length-replicate, drop-of-length-le}
@@ -29,11 +30,19 @@ eqb-add c a b =
     byCases (eqb a b) (λ e. rw e (eq-eqb (c + a) (c + b) (ap (λ (n : ℕ). c + n) (eqb-true a b e))))
     (λ e. rw e (ne-eqb (c + a) (c + b) (λ q. eqb-false a b e (omega arith))))
 
-pub same-way : (s : Sizes) (x leaf h : ℕ) → h ≤ s .height → eqb (bucketAt s x (s .height - h)) (bucketAt s leaf (s .height - h)) ≡ eqb (x / 2 ^ h) (leaf / 2 ^ h)
+same-way : (s : Sizes) (x leaf h : ℕ) → h ≤ s .height → eqb (bucketAt s x (s .height - h)) (bucketAt s leaf (s .height - h)) ≡ eqb (x / 2 ^ h) (leaf / 2 ^ h)
 same-way s x leaf h q =
     let e : s .height - (s .height - h) ≡ h = omega arith in
     eqb-add (2 ^ (s .height - h) - 1) (x / 2 ^ (s .height - (s .height - h))) (leaf / 2 ^ (s .height - (s .height - h)))
     ∙ ap (λ (n : ℕ). eqb (x / 2 ^ n) (leaf / 2 ^ n)) e
+
+-- the loop that looks for room, with both leaves halved once for each height
+pub halved : (x h : ℕ) → x / 2 ^ h / 2 ≡ x / 2 ^ (h + 1)
+halved x h = div-div-eq-div-mul x (2 ^ h) 2 ∙ ap (λ (n : ℕ). x / n) (sym (ap (λ (n : ℕ). 2 ^ n) (add-one h) ∙ pow-suc 2 h))
+
+pub room-is : (s : Sizes) (leaf : ℕ) (used : List ℕ) (x h a b : ℕ) → h ≤ s .height → a ≡ x / 2 ^ h → b ≡ leaf / 2 ^ h → hasRoom s leaf used x h ≡ (eqb a b && ltb (getD used h 0) (s .slots))
+room-is s leaf used x h a b q e f =
+    ap (λ (t : Bool). t && ltb (getD used h 0) (s .slots)) (same-way s x leaf h q ∙ ap₂ eqb (sym e) (sym f))
 
 -- ---- level by level
 

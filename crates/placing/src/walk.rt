@@ -14,25 +14,22 @@ pub const HEIGHTS: usize = Sizes::MOST_HEIGHT + 2;
 
 pub const LEAF_IN: usize = 2;
 
-// Whether the bucket at height `h` of the path to `leaf` lies on the way to leaf `x`, and has room.
-fn has_room(used: &[usize; HEIGHTS], x: usize, h: usize, s: Sizes, leaf: usize) -> bool
-    requires { ⌜ (h ≤ s .height) × (s .height ≤ mostHeight) ⌝ }
-    ensures { λ r. ⌜ r ≡ spec.hasRoom s leaf (now (used .entry)) x h ⌝ }
-{
-    (x >> h == leaf >> h) & (used[h] < s.slots)
-}
-
-// The height of the first bucket, from the leaf up, that can take a block of leaf `x`; one more than the root's where none can.
+// The height of the first bucket, from the leaf up, that lies on the way to leaf `x` and has room; one more than the root's where none has. Two ways
+// have a bucket in common where what is left of their leaves, halved once for each height, is the same.
 fn seek(used: &[usize; HEIGHTS], x: usize, s: Sizes, leaf: usize) -> usize
     requires { ⌜ s .height ≤ mostHeight ⌝ }
     ensures { λ r. ⌜ (r ≡ spec.seek (spec.hasRoom s leaf (now (used .entry)) x) (s .height + 1) 0) × (r < spec.mostHeights) ⌝ }
 {
     let n = s.height + 1;
+    let mut a = x;
+    let mut b = leaf;
     let mut h = 0;
     while h < n {
-        if has_room(used, x, h, s, leaf) {
+        if (a == b) & (used[h] < s.slots) {
             return h;
         }
+        a = a / 2;
+        b = b / 2;
         h += 1;
     }
     n
@@ -54,6 +51,6 @@ pub fn assign(bank: &[u8], places: &[u16], s: Sizes, leaf: usize, at: &mut [u8])
         at[i] = h as u8;
         i += 1;
     }
-    let n = s.height + 1;
-    used[n]
+    let above = s.height + 1;
+    used[above]
 }

@@ -98,8 +98,8 @@ loop-again c =
       sym (used-turn (a .s) (a .leaf) (a .bank .now) (l .used) (a .places .now) (l .i) k (c .before .before .wide2 .result) h (leaf-is (c .before .before)) (c .seek .ensures .0)) ∙ l .inv .3,
     )
 
-add-n : tie.Need-add-n Inv-loop μ-loop
-add-n c = search needs
+add-above : tie.Need-add-above Inv-loop μ-loop
+add-above c = search needs
 
 mul-result : tie.Need-mul-result Inv-loop μ-loop
 mul-result c = search needs
@@ -146,7 +146,7 @@ assign-spec =
     add-i
     loop-less
     loop-again
-    add-n
+    add-above
     mul-result
     array-read-result
     same-length
