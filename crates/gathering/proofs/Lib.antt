@@ -1,3 +1,4 @@
 pub mod Those
 pub mod Taken
 pub mod Arranged
+pub mod Found

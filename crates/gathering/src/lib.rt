@@ -1,6 +1,7 @@
 // Gathering: every block that a finish meets goes into a bank, the requested one under its new leaf, and a plan says where each goes. Blocks of
 // the opened path and of the stash are copied there, so that the lent path and the stash in the desk can be written from it.
 use placing::Counts;
+use placing::walk::LEAF_IN;
 use sizes::Sizes;
 ghost use mathlib.Core.Path.{_≡_};
 ghost use Prim.Native.Nat.{_+_, _*_, _≤_};
@@ -18,8 +19,6 @@ pub struct Request {
     pub id: u16,
     pub leaf: u16,
 }
-
-pub const LEAF_IN: usize = 2;
 
 // The requested block into slot 0, if there is one; and how many that is.
 fn put_request(bank: &mut [u8], request: Request, record: &[u8]) -> usize
