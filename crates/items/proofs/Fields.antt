@@ -1,17 +1,17 @@
 -- The fields of an item, by their places in the path that it lies in. Assumes nothing.
-use mathlib.Core.Path.{_≡_, refl, sym, ap, _∙_}
+use mathlib.Core.Path.{_≡_, ap, _∙_}
 use mathlib.Core.List.{List}
-use Prim.Native.Nat.{ℕ, zero, suc, _+_, _*_, _≤_, _<_}
+use Prim.Native.Nat.{ℕ, _+_, _≤_, _<_}
 use native.Mathlib.Nat.{add-zero}
 use native.Mathlib.Omega.{arith}
-use lib.ListN.{length, getD}
+use lib.ListN.{getD}
 use Rattle.words.specs.Bytes.{part}
 use Rattle.words.specs.Numbers.{number}
 use Rattle.words.proofs.Splice.{part-part, getD-part}
 use Rattle.words.proofs.Numbers.{number-part}
 use Rattle.words.proofs.Tests.{below-or}
 use Rattle.sizes.specs.declared.Sizes.{Sizes}
-use Rattle.sizes.specs.Sizes.{leafLen, innerLen, itemLen, itemAt, itemOf, counterLen, digestLen, slotsLen, flagAt, digestAt}
+use Rattle.sizes.specs.Sizes.{leafLen, itemLen, itemAt, itemOf, counterLen, digestLen, slotsLen, flagAt, digestAt}
 use Rattle.sizes.proofs.Lengths.{inner-item, leaf-item}
 use Rattle.items.specs.Items.{counterBytes, counterOf, slotsOf, flagOf, digestOf}
 

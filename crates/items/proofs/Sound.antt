@@ -7,7 +7,7 @@ use native.Mathlib.Omega.{arith}
 use lib.ListN.{length, length-append}
 use Rattle.words.specs.Numbers.{bigBytesOf}
 use Rattle.words.proofs.Numbers.{length-bigBytesOf}
-use Rattle.sha2.specs.Sha2.{Sha2, allBytes, addAll, compress, after, padding, digest}
+use Rattle.sha2.specs.Sha2.{allBytes, addAll, compress, after, padding, digest}
 use Rattle.sha2.specs.Sha256.{v256, H256, sha256}
 use Rattle.chacha20.proofs.Cipher.{length-cipher, cipher-twice}
 use Rattle.items.specs.Items.{Sound}

@@ -6,11 +6,10 @@ use mathlib.Core.List.{List}
 use native.Mathlib.Nat.{zero-add, suc-add}
 use native.Mathlib.Numerals.{add-one}
 use native.Mathlib.Omega.{arith}
-use lib.Dec.{eqb, ltb}
+use lib.Dec.{eqb}
 use borrow.Author.Tests.{eq-eqb, ne-eqb, lt-ltb, le-ltb}
 use Rattle.words.specs.Bytes.{part}
 use Rattle.words.proofs.Tests.{byCases, below-or, and-left}
-use Rattle.sizes.specs.declared.Sizes.{Sizes}
 use Rattle.sizes.specs.Sizes.{itemAt, digestLen, digestAt}
 use Rattle.items.specs.declared.View.{View}
 use Rattle.items.specs.Items.{flagOf, digestOf}

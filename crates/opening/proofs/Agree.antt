@@ -1,19 +1,18 @@
 -- Bytes of items that are not reachable never matter: paths that agree where they are reachable are opened alike. Assumes nothing.
-use Prim.Native.Nat.{ℕ, zero, suc, _+_, _<_, _≤_}
-use mathlib.Core.Path.{_≡_, refl, sym, ap, ap₂, _∙_}
-use mathlib.Core.Bool.{Bool, true, false, cond, not, _&&_, _||_}
+use Prim.Native.Nat.{ℕ, zero, suc, _+_, _≤_}
+use mathlib.Core.Path.{_≡_, refl, ap, ap₂, _∙_}
+use mathlib.Core.Bool.{Bool, true, false, not, _&&_, _||_}
 use mathlib.Core.List.{List, [], _∷_, _++_}
 use native.Mathlib.Omega.{arith}
 use lib.Dec.{eqb, leb}
 use Rattle.words.specs.Bytes.{same}
-use Rattle.words.specs.Tests.{all}
 use Rattle.words.proofs.Tests.{byCases, all-ext}
 use Rattle.slots.specs.Slots.{Block}
-use Rattle.desk.specs.Readers.{heightOf, sizesOf, keyOf, stashOf}
-use Rattle.items.specs.Items.{Means, counterOf, flagOf, itemDigest, blocksIn}
-use Rattle.items.specs.Way.{item, bucket, reachable, Agree, digestDue}
+use Rattle.desk.specs.Readers.{heightOf, sizesOf, stashOf}
+use Rattle.items.specs.Items.{Means, counterOf, flagOf, itemDigest}
+use Rattle.items.specs.Way.{reachable, Agree}
 use Rattle.items.proofs.Way.{reachable-agree, due-agree}
-use Rattle.opening.specs.Opening.{viewOf, foundAt, foundTo, found, gathered, digestFits, flagsFit, isWorn, lastCounter, eachFits, isThere, genuine, worn}
+use Rattle.opening.specs.Opening.{viewOf, foundAt, foundTo, found, gathered, digestFits, flagsFit, isWorn, lastCounter, eachFits, genuine, worn}
 
 -- a test under a condition, where it is the same under the condition
 under : (r s a b : Bool) → r ≡ s → (r ≡ true → a ≡ b) → (not r || a) ≡ (not s || b)

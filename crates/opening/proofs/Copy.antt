@@ -1,14 +1,14 @@
 -- The working copy: the slots of its first k items opened, the items from k on as they were lent. Assumes nothing.
-use Prim.Native.Nat.{ℕ, zero, suc, _+_, _≤_, _<_}
-use mathlib.Core.Path.{_≡_, refl, sym, ap, _∙_, subst}
+use Prim.Native.Nat.{ℕ, _+_, _≤_, _<_}
+use mathlib.Core.Path.{_≡_, sym, ap, _∙_, subst}
 use mathlib.Core.List.{List}
-use native.Mathlib.Nat.{zero-add, le-antisymm}
+use native.Mathlib.Nat.{zero-add}
 use native.Mathlib.Omega.{arith}
 use lib.ListN.{length}
 use Rattle.words.specs.Bytes.{part, splice, zeros}
 use Rattle.words.proofs.Splice.{part-splice, part-splice-in, part-splice-before, part-splice-after}
 use Rattle.words.proofs.Tests.{below-or}
-use Rattle.sizes.specs.Sizes.{InRange, leafLen, itemLen, itemAt, pathLen, counterLen, slotsLen, mostPath}
+use Rattle.sizes.specs.Sizes.{leafLen, itemLen, itemAt, pathLen, counterLen, slotsLen, mostPath}
 use Rattle.sizes.proofs.Lengths.{item-fits, items-apart}
 use Rattle.items.specs.declared.View.{View}
 use Rattle.items.specs.Items.{slotsOpened}

@@ -1,6 +1,6 @@
 -- The laws of lookup: of the first of several slots with an id, and of lists that stand together. Assumes nothing.
 use Prim.Native.Nat.{ℕ, zero, suc, _+_, _-_, _*_, _≤_, _<_}
-use mathlib.Core.Bool.{Bool, true, false, cond}
+use mathlib.Core.Bool.{true, false, cond}
 use mathlib.Core.Path.{_≡_, refl, sym, ap, ap₂, _∙_}
 use mathlib.Core.List.{List, [], _∷_, _++_}
 use native.Mathlib.Nat.{mul-zero}
@@ -14,7 +14,6 @@ use Rattle.words.specs.Numbers.{number}
 use Rattle.words.proofs.Splice.{length-part}
 use Rattle.words.proofs.Tests.{byCases}
 use Rattle.bags.specs.Bags.{bit, cnt, those, AllOf}
-use Rattle.bags.proofs.Bags.{cnt-append}
 use Rattle.slots.specs.Slots.{Block, isUsed, slotBy, blockBy, blocksBy}
 use Rattle.slots.proofs.Blocks.{slots-suc}
 use Rattle.sizes.specs.Sizes.{slotHead}

@@ -1,18 +1,18 @@
 -- The walks over the slots of the reachable items pass exactly where each block fits: the checks of step 2. Assumes nothing.
 use Prim.Native.Nat.{ℕ, zero, suc, _+_, _-_, _≤_, _<_}
-use mathlib.Core.Bool.{Bool, true, false, not, cond, _&&_, _||_}
+use mathlib.Core.Bool.{Bool, true, false, not, _||_}
 use mathlib.Core.Path.{_≡_, refl, sym, ap, _∙_, subst}
 use mathlib.Core.List.{List, [], _∷_, _++_, append-nil, append-assoc}
 use native.Mathlib.Nat.{zero-add, suc-add}
 use native.Mathlib.Numerals.{add-one}
 use native.Mathlib.Omega.{arith}
-use lib.ListN.{length, getD}
+use lib.ListN.{getD}
 use lib.Dec.{eqb, ltb}
 use borrow.Author.Tests.{eq-eqb, ne-eqb, eqb-true, lt-ltb, le-ltb}
 use Rattle.words.specs.Tests.{all}
 use Rattle.words.proofs.Tests.{below-or, all-none, all-more, all-fails, all-at, all-true, and-left, and-right}
 use Rattle.sizes.specs.Sizes.{mostIds}
-use Rattle.bags.specs.Bags.{bit, cnt, those, AllOf}
+use Rattle.bags.specs.Bags.{cnt, those, AllOf}
 use Rattle.bags.proofs.Bags.{cnt-append}
 use Rattle.slots.specs.Slots.{Block, isUsed, blocksOf}
 use Rattle.desk.specs.Readers.{heightOf, slotsIn, sizesOf, keyOf, idAsked, isMarked, stashOf}

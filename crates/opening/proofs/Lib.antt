@@ -12,3 +12,4 @@ pub mod Record
 pub mod Open
 pub mod Genuine
 pub mod Agree
+pub mod Gathered

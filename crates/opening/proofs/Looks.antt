@@ -1,21 +1,21 @@
 -- A look at one slot: what it answers, and what it leaves in the table. Assumes nothing.
-use Prim.Native.Nat.{ℕ, zero, suc, _+_, _≤_, _<_}
-use mathlib.Core.Bool.{Bool, true, false, not, _&&_, _||_}
-use mathlib.Core.Path.{_≡_, refl, sym, ap, _∙_, subst}
-use mathlib.Core.List.{List, [], _∷_, _++_, append-nil}
+use Prim.Native.Nat.{ℕ, _≤_, _<_}
+use mathlib.Core.Bool.{Bool, true, false}
+use mathlib.Core.Path.{_≡_, sym, _∙_}
+use mathlib.Core.List.{List, [], _∷_, append-nil}
 use native.Mathlib.Omega.{arith}
-use lib.ListN.{length, getD, set}
+use lib.ListN.{getD, set}
 use lib.Dec.{eqb, leb}
-use borrow.Author.Tests.{eq-eqb, ne-eqb, eqb-true, eqb-false, leb-true}
+use borrow.Author.Tests.{eq-eqb, ne-eqb, leb-true}
 use Rattle.words.specs.Tests.{Each}
-use Rattle.words.proofs.Tests.{byCases, each}
-use Rattle.bags.specs.Bags.{cnt, those}
+use Rattle.words.proofs.Tests.{each}
+use Rattle.bags.specs.Bags.{those}
 use Rattle.sizes.specs.Sizes.{mostIds}
-use Rattle.slots.specs.Slots.{Block, isUsed}
+use Rattle.slots.specs.Slots.{Block}
 use Rattle.desk.specs.Layout.{idsOf}
 use Rattle.desk.specs.Readers.{sizesOf, leafAsked, positionOf, isMarked}
 use Rattle.placing.specs.Placing.{onWay}
-use Rattle.opening.specs.Opening.{isId, isPlaced}
+use Rattle.opening.specs.Opening.{isPlaced}
 use Rattle.opening.specs.Walk.{Seen, passes, Looked}
 use Rattle.opening.proofs.Tests.{no-true}
 use Rattle.opening.proofs.Seen.{seen-used}

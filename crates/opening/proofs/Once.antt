@@ -1,26 +1,17 @@
 -- The walk passes exactly where every block is placed and has its id nowhere else on the path or in the stash. Assumes nothing.
-use Prim.Native.Nat.{ℕ, zero, suc, _+_, _-_, _≤_, _<_}
-use mathlib.Core.Bool.{Bool, true, false, not, cond, _&&_, _||_}
-use mathlib.Core.Path.{_≡_, refl, sym, ap, _∙_}
-use mathlib.Core.List.{List, [], _∷_, _++_, append-nil, append-assoc}
-use native.Mathlib.Nat.{zero-add, suc-add}
-use native.Mathlib.Numerals.{add-one}
+use Prim.Native.Nat.{ℕ, _+_, _-_, _≤_, _<_}
+use mathlib.Core.Bool.{true, _&&_}
+use mathlib.Core.Path.{_≡_, refl, ap}
+use mathlib.Core.List.{List, [], _∷_, _++_, append-nil}
 use native.Mathlib.Omega.{arith}
-use lib.ListN.{length}
-use lib.Dec.{eqb, ltb}
-use borrow.Author.Tests.{eq-eqb, ne-eqb, eqb-true, eqb-false}
-use Rattle.words.specs.Tests.{all}
-use Rattle.words.proofs.Tests.{byCases, below-or, all-at, all-true, and-left, and-right}
+use lib.Dec.{eqb}
+use borrow.Author.Tests.{eq-eqb, eqb-true}
+use Rattle.words.proofs.Tests.{byCases, and-left, and-right}
 use Rattle.bags.specs.Bags.{bit, cnt, those, AllOf}
 use Rattle.bags.proofs.Bags.{cnt-append}
-use Rattle.slots.specs.Slots.{Block, isUsed, blocksOf}
-use Rattle.desk.specs.Readers.{heightOf, slotsIn, sizesOf, keyOf, stashOf}
-use Rattle.items.specs.Items.{slotsOpened, blocksIn}
-use Rattle.items.specs.Way.{item, bucket, reachable, Reached}
-use Rattle.items.specs.Real.{real}
-use Rattle.items.proofs.Way.{reached-below, reached-above}
-use Rattle.opening.specs.Opening.{viewOf, isId, isPlaced, foundAt, foundTo, found, gathered, blockFits, eachFits}
-use Rattle.opening.specs.Walk.{walk, passes, OpenDesk}
+use Rattle.slots.specs.Slots.{Block, isUsed}
+use Rattle.opening.specs.Opening.{isId, isPlaced}
+use Rattle.opening.specs.Walk.{walk, passes}
 use Rattle.opening.proofs.Tests.{implied, implies}
 
 -- ---- lists of blocks

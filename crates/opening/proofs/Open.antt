@@ -1,5 +1,5 @@
 -- A good desk with an open request has what the steps of finish need of it. Assumes nothing.
-use Prim.Native.Nat.{ℕ, zero, suc, _+_, _*_, _≤_, _<_}
+use Prim.Native.Nat.{ℕ, suc, _+_, _*_, _≤_, _<_}
 use mathlib.Core.Bool.{Bool, true, _&&_, and-assoc}
 use mathlib.Core.Path.{_≡_, refl, sym, ap, ap₂, _∙_, subst}
 use mathlib.Core.List.{List, [], _∷_}
@@ -18,7 +18,7 @@ use Rattle.sizes.proofs.Lengths.{path-most}
 use Rattle.bags.specs.Bags.{bit, cnt}
 use Rattle.slots.specs.Slots.{Block, blocksBy}
 use Rattle.desk.specs.declared.Shape.{Shape}
-use Rattle.desk.specs.Layout.{eAt, slotAt, bodyD, bodyE, idsOf, roomOf, shapeOf}
+use Rattle.desk.specs.Layout.{eAt, slotAt, bodyD, bodyE, roomOf, shapeOf}
 use Rattle.desk.specs.Readers.{heightOf, idAsked, statusOf, stashCount, stashId, stashOf}
 use Rattle.desk.specs.Status.{openStatus}
 use Rattle.desk.specs.Stash.{Rising}
@@ -42,12 +42,13 @@ module _ (desk : List ℕ) (o : OpenDesk desk) where
       let s = o .whole .size in
       omega arith
 
-  pub stash-known : (i : ℕ) → i < stashCount desk → number 2 (stashSlots desk) (slotLen * i) ≤ mostIds
-  stash-known i l =
+  pub stash-id : (i : ℕ) → number 2 (stashSlots desk) (slotLen * i) ≡ stashId desk i
+  stash-id i =
       let e : eAt (shapeOf desk) + countLen + slotLen * i ≡ eAt (shapeOf desk) + slotAt (shapeOf desk) i = omega arith in
-      let f : number 2 (stashSlots desk) (slotLen * i) ≡ stashId desk i = number-drop 2 desk (eAt (shapeOf desk) + countLen) (slotLen * i) ∙ ap (number 2 desk) e in
-      let s = o .whole .small in
-      omega (arith, f, o .known i l)
+      number-drop 2 desk (eAt (shapeOf desk) + countLen) (slotLen * i) ∙ ap (number 2 desk) e
+
+  pub stash-known : (i : ℕ) → i < stashCount desk → number 2 (stashSlots desk) (slotLen * i) ≤ mostIds
+  stash-known i l = let s = o .whole .small in omega (arith, stash-id i, o .known i l)
 
   -- what is read from it is in range, and the working copy carries a path
   module _ (v : View) (e : v ≡ viewOf desk) where
@@ -100,6 +101,7 @@ good-open desk g st room =
       high = k .asked-high ne;
       leaf = k .every-position (idAsked desk) (k .asked-low ne) (k .asked-high ne);
       count = k .count-high;
+      used = k .id-low;
       known = k .id-high;
       once = λ id. rising-once 0 id (stashOf desk) (subst (λ (cs : List Block). Rising 0 cs) bs (s .rising));
     }

@@ -1,14 +1,14 @@
 -- Where a lookup through the working copy and the stash finds the record that a lookup through all that is gathered finds. Assumes nothing.
 use Prim.Native.Nat.{ℕ, zero, suc, _+_, _-_, _*_, _≤_, _<_}
 use mathlib.Core.Path.{_≡_, refl, sym, ap, _∙_}
-use mathlib.Core.List.{List, [], _∷_, _++_}
+use mathlib.Core.List.{List, _++_}
 use native.Mathlib.Nat.{zero-add, suc-add}
 use native.Mathlib.Numerals.{add-one}
 use native.Mathlib.Omega.{arith}
 use lib.ListN.{length}
 use Rattle.words.proofs.Tests.{below-or}
 use Rattle.sizes.specs.Sizes.{recordLen, slotLen}
-use Rattle.bags.specs.Bags.{cnt, those, AllOf}
+use Rattle.bags.specs.Bags.{cnt, those}
 use Rattle.bags.proofs.Bags.{cnt-append}
 use Rattle.slots.specs.Slots.{Block, isUsed, blocksOf}
 use Rattle.desk.specs.Readers.{heightOf, slotsIn, sizesOf, stashOf}
@@ -19,7 +19,7 @@ use Rattle.opening.specs.Opening.{viewOf, isId, foundTo, found, gathered
 use Rattle.opening.specs.Walk.{Unsealed}
 use Rattle.opening.proofs.Seen.{used-counts}
 use Rattle.opening.proofs.Found.{records-long, lookup-none, lookup-skip, lookup-stay, lookup-used, lookup-long}
-use Rattle.opening.proofs.Levels.{slotsAt, slotsHeld, found-slots, found-more, found-all, reach}
+use Rattle.opening.proofs.Levels.{slotsHeld, found-slots, found-more, found-all, reach}
 
 module _ (desk w : List ℕ) (n id : ℕ) (low : 0 < id) (path : List ℕ) (r : Reached (viewOf desk) path n) (u : Unsealed (viewOf desk) path n w) where
   abbrev to : ℕ → List Block

@@ -1,19 +1,18 @@
 -- The table of ids met: it goes by counts alone, and a block is met by one store. Assumes nothing.
-use Prim.Native.Nat.{ℕ, zero, suc, _+_, _*_, _≤_, _<_}
-use mathlib.Core.Bool.{Bool, true, false, not}
-use mathlib.Core.Path.{_≡_, refl, sym, ap, _∙_}
+use Prim.Native.Nat.{ℕ, suc, _+_, _*_, _≤_, _<_}
+use mathlib.Core.Bool.{false}
+use mathlib.Core.Path.{_≡_, sym, ap, _∙_}
 use mathlib.Core.List.{List, [], _∷_, _++_}
-use native.Mathlib.Numerals.{add-one}
 use native.Mathlib.Omega.{arith}
 use lib.ListN.{length, getD, set, drop, length-set, getD-replicate}
 use lib.Seq.{getD-set-same, getD-set-other}
 use lib.Dec.{eqb}
-use borrow.Author.Tests.{eq-eqb, ne-eqb, eqb-true, eqb-false}
+use borrow.Author.Tests.{ne-eqb, eqb-true, eqb-false}
 use Rattle.words.specs.Bytes.{zeros}
 use Rattle.words.proofs.Splice.{length-zeros}
 use Rattle.words.proofs.Tests.{byCases}
 use Rattle.sizes.specs.Sizes.{mostIds}
-use Rattle.bags.specs.Bags.{bit, cnt, those}
+use Rattle.bags.specs.Bags.{cnt, those}
 use Rattle.bags.proofs.Bags.{cnt-append, cnt-those}
 use Rattle.slots.specs.Slots.{Block, isUsed, slotBy, blockBy, blocksBy}
 use Rattle.slots.proofs.Blocks.{blocks-append}

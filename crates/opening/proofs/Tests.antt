@@ -1,11 +1,9 @@
 -- Tests under a condition, and tests that imply each other. Assumes nothing.
 -- for words
-use Prim.Native.Nat.{ℕ, suc, _+_, _≤_, _<_}
-use mathlib.Core.Path.{_≡_, refl, sym, ap, _∙_}
-use mathlib.Core.Bool.{Bool, true, false, not, _&&_, _||_}
+use Prim.Native.Nat.{ℕ}
+use mathlib.Core.Path.{_≡_, refl, sym}
+use mathlib.Core.Bool.{Bool, true, false, not, _||_}
 use native.Mathlib.Omega.{arith}
-use Rattle.words.specs.Tests.{all}
-use Rattle.words.proofs.Tests.{byCases, all-true, all-at}
 
 pub no-true : true ≡ false → ⊥
 no-true h = let z : _≡_ {A = ℕ} 0 1 = cc in omega arith

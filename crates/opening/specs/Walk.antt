@@ -25,6 +25,7 @@ pub record OpenDesk (desk : List ℕ) : Type 0 where
   pub high : idAsked desk ≤ idsOf desk
   pub leaf : leafAsked desk < leaves (sizesOf desk)
   pub count : stashCount desk ≤ roomOf desk
+  pub used : (i : ℕ) → i < stashCount desk → 1 ≤ stashId desk i
   pub known : (i : ℕ) → i < stashCount desk → stashId desk i ≤ idsOf desk
   pub once : (id : ℕ) → cnt (isId id) (stashOf desk) ≤ 1
 

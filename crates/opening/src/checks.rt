@@ -3,7 +3,7 @@ use items::View;
 use sizes::Sizes;
 ghost use mathlib.Core.Path.{_≡_};
 ghost use mathlib.Core.Bool.{_&&_};
-ghost use Prim.Native.Nat.{suc, _^_, _-_, _≤_, _<_};
+ghost use Prim.Native.Nat.{suc, _-_, _<_};
 ghost use lib.Dec.{leb};
 ghost use Rattle.words.specs.Tests.{all};
 ghost use Rattle.sizes.specs.Sizes.{itemOf};

@@ -2,14 +2,13 @@
 use items::View;
 use sizes::Sizes;
 ghost use mathlib.Core.Path.{_≡_};
-ghost use mathlib.Core.Bool.{_&&_};
 ghost use mathlib.Core.List.{List};
 ghost use Prim.Native.Nat.{ℕ, suc, _*_, _≤_, _<_};
 ghost use lib.ListN.{length};
 ghost use lib.Dec.{eqb};
 ghost use Rattle.words.specs.Numbers.{number};
 ghost use Rattle.sizes.specs.Sizes.{InRange, mostIds, mostPath, recordLen, slotLen, slotsLen, bucketAt};
-ghost use Rattle.slots.specs.Slots.{Block, blockBy, blocksOf};
+ghost use Rattle.slots.specs.Slots.{blockBy, blocksOf};
 ghost use Rattle.desk.specs.Layout.{Whole, idsOf};
 ghost use Rattle.desk.specs.Readers.{isMarked, stashCount};
 ghost use Rattle.items.specs.Way.{Reached};

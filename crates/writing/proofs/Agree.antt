@@ -1,7 +1,7 @@
 -- Paths that agree where they are reachable are written alike: bytes of items that are not reachable never matter. Assumes nothing.
-use Prim.Native.Nat.{ℕ, zero, suc, _+_, _-_, _≤_, _<_}
+use Prim.Native.Nat.{ℕ, zero, suc, _+_, _-_, _≤_}
 use mathlib.Core.Path.{_≡_, refl, sym, ap, ap₂, _∙_}
-use mathlib.Core.Bool.{Bool, true, false, cond, _&&_}
+use mathlib.Core.Bool.{Bool, false, cond, _&&_}
 use mathlib.Core.List.{List, [], _∷_, _++_}
 use native.Mathlib.Omega.{arith}
 use lib.ListN.{getD}
@@ -12,7 +12,7 @@ use Rattle.sizes.specs.Sizes.{digestLen}
 use Rattle.slots.specs.Slots.{Block}
 use Rattle.items.specs.declared.View.{View}
 use Rattle.items.specs.Items.{Means, counterOf, flagOf, digestOf, itemDigest, sealed}
-use Rattle.items.specs.Way.{item, bucket, side, reachable, Agree}
+use Rattle.items.specs.Way.{bucket, side, reachable, Agree}
 use Rattle.items.proofs.Way.{reachable-agree}
 use Rattle.writing.specs.Writing.{newCounter, newHead, isKept, newFlag, newDigest, newInner, written, pathWritten, rootWritten}
 
@@ -65,8 +65,7 @@ module _ (m : Means) (v : View) (xs ys : List ℕ) (placed : List (List Block)) 
   written-agree zero l = (head-agree (v .sizes .height) (omega arith), refl)
   written-agree (suc h) l =
       let k = v .sizes .height - suc h in
-      let w = written-agree h (omega arith) in
-      (
+      let w = written-agree h (omega arith) in (
         ap (λ (t : List ℕ). newInner m v xs placed k (itemDigest m (v .sizes) (suc k) t)) (w .0)
             ∙ inner-agree k (omega arith) (itemDigest m (v .sizes) (suc k) (written m v ys placed h .top)),
         ap₂ (λ (a b : List ℕ). a ++ b) (w .0) (w .1),

@@ -1,6 +1,6 @@
 -- `items::cipher_slots` meets its contract: the part from after the counter to the last slot is lent to the cipher, and given back. Assumes nothing.
-use Prim.Native.Nat.{ℕ, _+_, _-_}
-use mathlib.Core.Path.{_≡_, sym, ap, _∙_}
+use Prim.Native.Nat.{_+_, _-_}
+use mathlib.Core.Path.{ap, _∙_}
 use native.Mathlib.Omega.{arith}
 use Rattle.words.specs.Bytes.{part}
 use Rattle.sizes.specs.Sizes.{counterLen}

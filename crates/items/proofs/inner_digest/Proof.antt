@@ -1,5 +1,5 @@
 -- `items::inner_digest` meets its contract: three parts go in, one behind the other. Assumes nothing.
-use Prim.Native.Nat.{ℕ, _+_, _-_, _*_}
+use Prim.Native.Nat.{_+_, _-_}
 use mathlib.Core.List.{[]}
 use native.Mathlib.Omega.{arith}
 use Rattle.items.proofs.Digest.{inner-given}

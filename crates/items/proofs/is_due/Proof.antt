@@ -1,9 +1,8 @@
 -- `items::is_due` meets its contract: compared with the root digest, or with the part of the parent that its side names. Assumes nothing.
 use Prim.Native.Nat.{_+_, _-_, _*_}
-use mathlib.Core.Path.{sym, ap, _∙_}
+use mathlib.Core.Path.{ap, _∙_}
 use native.Mathlib.Omega.{arith}
 use Rattle.words.specs.Bytes.{same}
-use Rattle.items.specs.Way.{digestDue}
 use Rattle.items.proofs.Way.{due-root, due-child}
 use borrow.Author.Needs.{needs}
 use Rattle.items.proofs.is_due.Statement.{statement}

@@ -3,7 +3,6 @@ use Prim.Native.Nat.{ℕ, _+_, _-_}
 use mathlib.Core.Path.{_≡_, sym, ap, _∙_}
 use mathlib.Core.List.{List}
 use native.Mathlib.Omega.{arith}
-use Rattle.words.specs.Bytes.{part}
 use Rattle.sizes.specs.Sizes.{itemLen, itemOf}
 use Rattle.sizes.proofs.Lengths.{leaf-item}
 use Rattle.items.specs.Real.{real}

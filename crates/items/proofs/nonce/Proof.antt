@@ -1,6 +1,5 @@
 -- `items::nonce` meets its contract: the counter's bytes, then the bucket's number. Assumes nothing.
-use Prim.Native.Nat.{ℕ, _+_, _-_}
-use mathlib.Core.Path.{_≡_, sym, ap, _∙_}
+use Prim.Native.Nat.{_+_, _-_}
 use native.Mathlib.Omega.{arith}
 use Rattle.items.proofs.Sealing.{nonce-given}
 use borrow.Author.Needs.{needs}

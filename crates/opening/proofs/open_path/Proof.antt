@@ -1,15 +1,9 @@
 -- `opening::open_path` meets its contract: the three tests are the checks of the definition. Assumes nothing.
-use Prim.Native.Nat.{ℕ, suc, _≤_, _<_}
-use mathlib.Core.Path.{_≡_, refl, sym, ap, _∙_, subst}
-use mathlib.Core.Bool.{Bool, _&&_, and-assoc}
-use mathlib.Core.List.{List}
+use mathlib.Core.Path.{subst}
 use native.Mathlib.Omega.{arith}
-use lib.ListN.{length}
-use Rattle.sizes.specs.Sizes.{InRange, leaves}
 use Rattle.items.specs.declared.View.{View}
 use Rattle.items.specs.Items.{Carries}
 use Rattle.items.specs.Way.{Reached}
-use Rattle.opening.specs.Opening.{viewOf, genuine}
 use Rattle.opening.specs.Walk.{Unsealed}
 use Rattle.opening.proofs.Open.{view-range, view-leaf, whole-genuine}
 use borrow.Author.Needs.{needs}

@@ -1,9 +1,8 @@
 -- `opening::opened` meets its contract: the slots of the first k items are opened, the items from k on are as they were lent. Assumes nothing.
-use Prim.Native.Nat.{ℕ, _+_, _-_, _≤_, _<_}
-use mathlib.Core.Path.{_≡_, refl, sym, ap, _∙_}
+use Prim.Native.Nat.{_-_, _≤_}
+use mathlib.Core.Path.{_≡_, _∙_}
 use native.Mathlib.Omega.{arith}
 use lib.ListN.{length}
-use Rattle.words.proofs.Splice.{length-zeros}
 use Rattle.sizes.specs.Sizes.{mostPath}
 use Rattle.sizes.proofs.Lengths.{path-most}
 use Rattle.opening.proofs.Copy.{Copied, copied-none, copied-next, copied-all}

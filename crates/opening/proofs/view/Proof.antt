@@ -1,6 +1,5 @@
 -- `opening::view` meets its contract: key and root digest are copied, the rest is read. Assumes nothing.
-use Prim.Native.Nat.{ℕ, _+_}
-use mathlib.Core.Path.{_≡_, ap, _∙_}
+use mathlib.Core.Path.{ap, _∙_}
 use native.Mathlib.Omega.{arith}
 use Rattle.words.specs.Bytes.{part, zeros}
 use Rattle.words.proofs.Splice.{splice-whole, length-part, length-zeros}

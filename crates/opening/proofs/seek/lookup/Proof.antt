@@ -1,12 +1,12 @@
 -- `opening::seek::lookup` meets its contract: none of the first k items has the id; where none has, the stash is looked through. Assumes nothing.
-use Prim.Native.Nat.{ℕ, suc, _+_, _-_, _*_, _≤_, _<_}
-use mathlib.Core.Path.{_≡_, refl, sym, ap, _∙_, subst}
+use Prim.Native.Nat.{ℕ, _-_, _≤_}
+use mathlib.Core.Path.{_≡_, sym, ap, _∙_, subst}
 use mathlib.Core.List.{List}
 use native.Mathlib.Omega.{arith}
 use lib.ListN.{length}
-use Rattle.sizes.specs.Sizes.{slotLen, slotsLen}
+use Rattle.sizes.specs.Sizes.{slotsLen}
 use Rattle.bags.specs.Bags.{cnt}
-use Rattle.slots.specs.Slots.{Block, blocksOf}
+use Rattle.slots.specs.Slots.{blocksOf}
 use Rattle.items.specs.declared.View.{View}
 use Rattle.items.specs.Items.{slotsOf}
 use Rattle.items.specs.Way.{item, Reached}

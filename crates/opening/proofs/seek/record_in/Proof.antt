@@ -1,8 +1,8 @@
 -- `opening::seek::record_in` meets its contract: none of the first j slots has the id. Assumes nothing.
-use Prim.Native.Nat.{ℕ, _+_, _-_, _*_, _≤_, _<_}
-use mathlib.Core.Path.{_≡_, refl, sym, ap, _∙_}
+use Prim.Native.Nat.{_+_, _-_, _*_, _≤_}
+use mathlib.Core.Path.{_≡_, sym, _∙_}
 use native.Mathlib.Omega.{arith}
-use lib.ListN.{length, drop}
+use lib.ListN.{drop}
 use Rattle.sizes.specs.Sizes.{recordLen, slotLen}
 use Rattle.slots.specs.Slots.{blocksOf}
 use Rattle.opening.specs.Opening.{lookup}

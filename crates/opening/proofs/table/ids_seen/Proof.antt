@@ -1,10 +1,10 @@
 -- `opening::table::ids_seen` meets its contract: the ids of the first i slots are met. Assumes nothing.
-use Prim.Native.Nat.{ℕ, suc, _+_, _-_, _*_, _≤_, _<_}
-use mathlib.Core.Path.{_≡_, refl, sym, ap, _∙_, subst}
+use Prim.Native.Nat.{ℕ, suc, _-_, _≤_}
+use mathlib.Core.Path.{_≡_, _∙_, subst}
 use native.Mathlib.Omega.{arith}
 use lib.ListN.{length}
 use Rattle.sizes.specs.Sizes.{mostIds, recordLen}
-use Rattle.slots.specs.Slots.{blocksOf, blocksBy}
+use Rattle.slots.specs.Slots.{blocksOf}
 use Rattle.opening.specs.Walk.{Seen}
 use Rattle.opening.proofs.Seen.{seen-first, seen-next}
 use Rattle.opening.proofs.Walk.{slot-id}

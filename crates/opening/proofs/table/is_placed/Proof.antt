@@ -1,11 +1,9 @@
 -- `opening::table::is_placed` meets its contract: the tests of the definition, one by one. Assumes nothing.
-use Prim.Native.Nat.{ℕ, _≤_}
-use mathlib.Core.Bool.{Bool, _&&_}
 use mathlib.Core.Path.{_≡_, sym, ap, _∙_}
 use native.Mathlib.Omega.{arith}
 use lib.Dec.{eqb}
 use borrow.Author.Tests.{le-leb, lt-leb}
-use Rattle.sizes.specs.Sizes.{InRange, bucketAt}
+use Rattle.sizes.specs.Sizes.{bucketAt}
 use Rattle.desk.specs.declared.Shape.{Shape}
 use Rattle.desk.specs.Layout.{idsOf}
 use Rattle.items.specs.declared.View.{View}

@@ -1,6 +1,6 @@
 -- `opening::table::slots_good` meets its contract: the slots of the first k items were walked, the stash first. Assumes nothing.
-use Prim.Native.Nat.{ℕ, suc, _+_, _-_, _*_, _≤_, _<_}
-use mathlib.Core.Path.{_≡_, refl, sym, ap, ap₂, _∙_, subst}
+use Prim.Native.Nat.{ℕ, suc, _-_, _≤_}
+use mathlib.Core.Path.{_≡_, ap, ap₂, _∙_, subst}
 use mathlib.Core.Bool.{Bool, true, false, not, _||_}
 use mathlib.Core.List.{List}
 use native.Mathlib.Omega.{arith}
@@ -8,12 +8,10 @@ use lib.ListN.{length, getD}
 use lib.Dec.{eqb}
 use borrow.Author.Tests.{not-true, not-false}
 use Rattle.sizes.specs.Sizes.{mostIds}
-use Rattle.sizes.proofs.Lengths.{path-most}
 use Rattle.desk.specs.Readers.{isMarked, idAsked, stashOf}
-use Rattle.slots.specs.Slots.{Block, blocksOf}
+use Rattle.slots.specs.Slots.{blocksOf}
 use Rattle.items.specs.declared.View.{View}
-use Rattle.items.specs.Items.{slotsOf, Carries}
-use Rattle.items.specs.Way.{item, Reached}
+use Rattle.items.specs.Way.{Reached}
 use Rattle.opening.specs.Opening.{viewOf}
 use Rattle.opening.specs.Walk.{Seen, Walked, Unsealed}
 use Rattle.opening.proofs.Open.{stash-room, stash-known, copy-carries}
