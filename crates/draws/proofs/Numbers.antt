@@ -1,6 +1,6 @@
 -- Lists of numbers, each at most once: the numbers from a on, what is absent, and the table that takes one list to another. Assumes nothing.
-use mathlib.Core.Path.{_≡_, refl, sym, ap, ap₂, _∙_}
-use mathlib.Core.Bool.{Bool, true, false, cond}
+use mathlib.Core.Path.{_≡_, refl, sym, ap, _∙_}
+use mathlib.Core.Bool.{Bool}
 use mathlib.Core.Logic.{_≢_}
 use mathlib.Core.List.{List, [], _∷_, _++_, map, List·Permᴰ, List·Permᴰ·nil, List·Permᴰ·cons, List·Permᴰ·swap, List·Permᴰ·trans, Permᴰ·refl}
 use Prim.Native.Nat.{ℕ, zero, suc, _+_, _≤_, _<_}
@@ -10,8 +10,8 @@ use lib.ListN.{length, getD}
 use lib.Dec.{eqb}
 use borrow.Author.Tests.{eqb-true, eq-eqb, ne-eqb}
 use Rattle.words.proofs.Tests.{byCases}
-use Rattle.bags.specs.Bags.{cnt, those}
-use Rattle.bags.proofs.Bags.{cnt-append, perm-same, same-length}
+use Rattle.bags.specs.Bags.{those}
+use Rattle.bags.proofs.Bags.{perm-same}
 use Rattle.draws.specs.Draws.{from, times, absent, look}
 
 -- ---- a, a + 1, ..

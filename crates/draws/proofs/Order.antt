@@ -1,14 +1,14 @@
 -- The draws shown and those not shown are all the draws, each once. Assumes nothing.
-use mathlib.Core.Path.{_≡_, refl, sym, ap, _∙_}
+use mathlib.Core.Path.{_≡_, refl, _∙_}
 use mathlib.Core.Logic.{_≢_}
-use mathlib.Core.List.{List, [], _∷_, _++_, List·Permᴰ, List·Permᴰ·trans, Permᴰ·symm, Permᴰ·append-left}
-use Prim.Native.Nat.{ℕ, _+_, _≤_, _<_}
+use mathlib.Core.List.{List, [], _++_, List·Permᴰ, List·Permᴰ·trans, Permᴰ·symm, Permᴰ·append-left}
+use Prim.Native.Nat.{ℕ, _+_, _<_}
 use native.Mathlib.Nat.{zero-add}
 use native.Mathlib.Omega.{arith}
 use lib.ListN.{length, getD}
-use Rattle.bags.specs.Bags.{cnt, those}
+use Rattle.bags.specs.Bags.{those}
 use Rattle.bags.proofs.Bags.{cnt-append}
-use Rattle.draws.specs.Draws.{AllGood, from, times, absent, indices, unshown, order}
+use Rattle.draws.specs.Draws.{AllGood, from, absent, indices, unshown, order}
 use Rattle.draws.proofs.Numbers.{length-from, from-append, Once, from-once, once-perm, once-distinct, those-append, those-perm, those-in, those-out}
 use Rattle.draws.proofs.Shown.{held, conserve, indices-are}
 

@@ -1,8 +1,7 @@
 -- Two lists of ids of one length: under the rearrangement, which is one, the second shows the same leaves as the first. Assumes nothing.
-use mathlib.Core.Path.{_≡_, refl, sym, ap, _∙_}
-use mathlib.Core.List.{List, [], _∷_, _++_, map, List·Permᴰ, List·Permᴰ·trans, Permᴰ·symm, map-map, Permᴰ·map}
-use Prim.Native.Nat.{ℕ, _+_, _≤_, _<_}
-use native.Mathlib.Omega.{arith}
+use mathlib.Core.Path.{_≡_, sym, ap, _∙_}
+use mathlib.Core.List.{List, _++_, map, List·Permᴰ, List·Permᴰ·trans, Permᴰ·symm, map-map, Permᴰ·map}
+use Prim.Native.Nat.{ℕ, _+_}
 use lib.ListN.{length, getD, take, length-map}
 use lib.Seq.{take-at}
 use Rattle.bags.proofs.Bags.{perm-same, same-length}

@@ -1,23 +1,22 @@
 -- Items that no digest tells apart have the same counter, slots and flags, and the same digest of a child where its flag is 1. Assumes nothing.
-use Prim.Native.Nat.{ℕ, zero, suc, _+_, _*_, _≤_, _<_}
+use Prim.Native.Nat.{ℕ, zero, suc, _+_, _≤_, _<_}
 use mathlib.Core.Path.{_≡_, refl, sym, ap, ap₂, _∙_}
-use mathlib.Core.Bool.{Bool, true, false, cond}
-use mathlib.Core.List.{List, [], _∷_, _++_}
+use mathlib.Core.List.{List, _++_}
 use native.Mathlib.Nat.{zero-add}
 use native.Mathlib.Omega.{arith}
 use lib.ListN.{length, take, drop, getD}
 use lib.Seq.{length-take-le, take-at, drop-at, take-take, getD-take}
 use lib.Dec.{eqb}
 use borrow.Author.Tests.{lt-ltb, le-ltb}
-use Rattle.words.specs.Bytes.{part, zeros}
+use Rattle.words.specs.Bytes.{part}
 use Rattle.words.specs.Numbers.{number}
 use Rattle.words.proofs.Splice.{length-part, length-zeros, part-part}
 use Rattle.words.proofs.Numbers.{number-part}
 use Rattle.words.proofs.Tests.{byCases, below-or}
 use Rattle.sizes.specs.declared.Sizes.{Sizes}
-use Rattle.sizes.specs.Sizes.{counterLen, flagsLen, digestLen, slotsLen, leafLen, innerLen, itemLen, flagAt, digestAt}
-use Rattle.sizes.proofs.Lengths.{inner-item, leaf-item}
-use Rattle.items.specs.Items.{Means, counterBytes, counterOf, slotsOf, flagOf, digestOf, digestRead, masked, nonceOf, blocksIn}
+use Rattle.sizes.specs.Sizes.{counterLen, digestLen, slotsLen, leafLen, innerLen, itemLen, flagAt, digestAt}
+use Rattle.sizes.proofs.Lengths.{inner-item}
+use Rattle.items.specs.Items.{Means, counterOf, flagOf, digestOf, digestRead, masked, nonceOf, blocksIn}
 use Rattle.bags.specs.Bags.{those}
 use Rattle.slots.specs.Slots.{isUsed, blocksOf}
 

@@ -1,22 +1,21 @@
 -- What an accepted finish does to the bag of blocks: the requested block is replaced, nothing is lost, nothing is doubled. Assumes nothing.
-use Prim.Native.Nat.{ℕ, zero, suc, _+_, _-_, _*_, _/_, _%_, _^_, _<_, _≤_}
-use mathlib.Core.Path.{_≡_, refl, sym, ap, ap₂, _∙_}
+use Prim.Native.Nat.{ℕ, zero, suc, _+_, _<_, _≤_}
+use mathlib.Core.Path.{_≡_, refl, sym, ap, _∙_}
 use mathlib.Core.Logic.{_≢_}
-use mathlib.Core.Bool.{Bool, true, false, cond, not, _&&_}
-use mathlib.Core.List.{List, [], _∷_, _++_}
+use mathlib.Core.Bool.{Bool, cond, not, _&&_}
+use mathlib.Core.List.{List, _++_}
 use native.Mathlib.Omega.{arith}
 use mathlib.Core.Option.{Option, none, some}
 use lib.Dec.{eqb}
 use borrow.Author.Tests.{eqb-true, eqb-false}
 use Rattle.words.proofs.Tests.{byCases}
-use Rattle.bags.specs.Bags.{bit, cnt, those, flat}
+use Rattle.bags.specs.Bags.{cnt, those, flat}
 use Rattle.bags.proofs.Bags.{cnt-append}
 use Rattle.slots.specs.Slots.{Block}
 use Rattle.desk.specs.Layout.{idsOf}
 use Rattle.desk.specs.Readers.{sizesOf, kindAsked, idAsked, newLeaf, recordAsked, leafAsked}
 use Rattle.items.specs.Items.{Means}
 use Rattle.opening.specs.Opening.{viewOf, isId, gathered}
-use Rattle.placing.specs.Placing.{sorted}
 use Rattle.placing.proofs.Rising.{sorted-same}
 use Rattle.placing.proofs.Placing.{placed-same}
 use Rattle.store.specs.Steps.{under, carried, wasMarked, recordFound, toPlace, placed, newStash}

@@ -1,21 +1,19 @@
 -- The invariant carried over to another desk: one that says the same of sizes, key, root and stash, and positions and marks as the table has them. Assumes nothing.
-use Prim.Native.Nat.{ℕ, zero, suc, _+_, _-_, _*_, _/_, _%_, _^_, _<_, _≤_}
+use Prim.Native.Nat.{ℕ, zero, suc, _+_, _≤_}
 use mathlib.Core.Path.{_≡_, refl, sym, ap, ap₂, subst, _∙_}
-use mathlib.Core.Logic.{_≢_}
-use mathlib.Core.Bool.{Bool, true, false, cond, not, _&&_}
+use mathlib.Core.Bool.{Bool}
 use mathlib.Core.List.{List, [], _∷_, _++_}
 use native.Mathlib.Omega.{arith}
 use mathlib.Core.Option.{Option, none, some}
-use lib.ListN.{length, getD, drop}
+use lib.ListN.{getD, drop}
 use lib.Dec.{eqb}
 use Rattle.words.specs.Numbers.{number}
 use Rattle.sizes.specs.declared.Sizes.{Sizes}
 use Rattle.sizes.specs.Sizes.{countLen}
 use Rattle.bags.specs.Bags.{cnt}
-use Rattle.bags.proofs.Bags.{cnt-append}
 use Rattle.slots.specs.Slots.{Block, blocksBy}
 use Rattle.desk.specs.Layout.{idsOf, shapeOf, placeAt, markIn}
-use Rattle.desk.specs.Readers.{sizesOf, keyOf, rootOf, writtenOf, isWritten, positionOf, markOf, isMarked, stashOf}
+use Rattle.desk.specs.Readers.{sizesOf, keyOf, rootOf, writtenOf, isWritten, positionOf, isMarked, stashOf}
 use Rattle.desk.specs.View.{View as Parts, viewOf as partsOf}
 use Rattle.desk.proofs.Changed.{Changed, unchanged, same-ids, same-sizes}
 use Rattle.desk.proofs.Read.{read-position, read-mark, read-stash}

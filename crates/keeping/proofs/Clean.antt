@@ -1,9 +1,9 @@
 -- No block under a leaf stands off the way to that leaf. Assumes nothing.
-use Prim.Native.Nat.{ℕ, zero, suc, _+_, _-_, _*_, _/_, _%_, _^_, _<_, _≤_}
-use mathlib.Core.Path.{_≡_, refl, sym, ap, ap₂, _∙_}
+use Prim.Native.Nat.{ℕ, zero, suc, _+_, _-_, _*_, _/_, _%_, _^_}
+use mathlib.Core.Path.{_≡_, refl, sym, ap₂, _∙_}
 use mathlib.Core.Logic.{_≢_}
-use mathlib.Core.Bool.{Bool, true, false, cond, not, _&&_}
-use mathlib.Core.List.{List, [], _∷_, _++_}
+use mathlib.Core.Bool.{Bool, true, false}
+use mathlib.Core.List.{List, [], _∷_}
 use native.Mathlib.Omega.{arith}
 use lib.Dec.{eqb}
 use borrow.Author.Tests.{eqb-true, eqb-false, ne-eqb}
@@ -16,7 +16,7 @@ use Rattle.slots.specs.Slots.{Block}
 use Rattle.items.specs.Items.{Means, digestOf}
 use Rattle.keeping.specs.Server.{Server, orNil, blocksAt, leads, standing}
 use Rattle.keeping.proofs.Standing.{offIt, half}
-use Rattle.keeping.proofs.Tied.{Node, Tied}
+use Rattle.keeping.proofs.Tied.{Tied}
 
 abbrev pub leafIs : ℕ → Block → Bool
 leafIs leaf b = eqb (b .leaf) leaf

@@ -1,27 +1,24 @@
 -- The desk that an accepted finish leaves, and the invariant after it. Assumes nothing but what is asked of digest and cipher.
-use Prim.Native.Nat.{ℕ, zero, suc, _+_, _-_, _*_, _/_, _%_, _^_, _<_, _≤_}
-use mathlib.Core.Path.{_≡_, refl, sym, ap, ap₂, subst, _∙_}
+use Prim.Native.Nat.{ℕ, _+_, _<_, _≤_}
+use mathlib.Core.Path.{_≡_, refl, ap, _∙_}
 use mathlib.Core.Logic.{_≢_}
-use mathlib.Core.Bool.{Bool, true, false, cond, not, _&&_}
-use mathlib.Core.List.{List, [], _∷_, _++_}
+use mathlib.Core.Bool.{true}
+use mathlib.Core.List.{List, _++_}
 use native.Mathlib.Omega.{arith}
 use lib.ListN.{length, drop}
-use lib.Dec.{eqb}
 use Rattle.words.specs.Bytes.{zeros}
-use Rattle.words.specs.Numbers.{number}
 use Rattle.words.proofs.Splice.{length-zeros}
-use Rattle.sizes.specs.declared.Sizes.{Sizes}
-use Rattle.sizes.specs.Sizes.{countLen, digestLen}
-use Rattle.bags.specs.Bags.{cnt, flat}
+use Rattle.sizes.specs.Sizes.{countLen}
+use Rattle.bags.specs.Bags.{cnt}
 use Rattle.bags.proofs.Bags.{cnt-append}
 use Rattle.slots.specs.Slots.{Block, blocksBy}
 use Rattle.desk.specs.declared.Shape.{Shape}
-use Rattle.desk.specs.Layout.{cLen, eLen, shapeLen, idsOf, roomOf, shapeOf}
-use Rattle.desk.specs.Readers.{sizesOf, keyOf, heightOf, rootOf, writtenOf, isWritten, statusOf, kindAsked, idAsked, newLeaf, leafAsked, stashOf}
-use Rattle.desk.specs.Status.{readyStatus, atStatus}
+use Rattle.desk.specs.Layout.{cLen, shapeLen, idsOf, roomOf, shapeOf}
+use Rattle.desk.specs.Readers.{sizesOf, keyOf, heightOf, statusOf, kindAsked, idAsked, newLeaf, leafAsked, stashOf}
+use Rattle.desk.specs.Status.{readyStatus}
 use Rattle.desk.specs.Good.{goodDesk}
 use Rattle.desk.specs.Changes.{stashBytes}
-use Rattle.desk.specs.View.{View as Parts, viewOf as partsOf, toStatus, toRequest, toRoot, toStash}
+use Rattle.desk.specs.View.{View as Parts, toStatus, toRequest, toRoot, toStash}
 use Rattle.desk.proofs.Known.{known}
 use Rattle.desk.proofs.Exactly.{good-conditions}
 use Rattle.desk.proofs.Changed.{Changed, status-changed, request-changed, stash-changed, root-changed, same-ids, same-sizes}
@@ -37,7 +34,7 @@ use Rattle.store.specs.Steps.{wasMarked, placed, newStash, newPath, newRoot, ne
 use Rattle.keeping.specs.Server.{Server, Agrees, wrote, standing}
 use Rattle.keeping.specs.Table.{Table, tableBlocks}
 use Rattle.keeping.proofs.Tied.{Tied}
-use Rattle.keeping.proofs.Genuine.{Inv, Asks, off}
+use Rattle.keeping.proofs.Genuine.{Inv, Asks}
 use Rattle.keeping.proofs.TableStep.{tableAfter, bag-after}
 use Rattle.keeping.proofs.Positions.{places-long}
 use Rattle.keeping.proofs.TreeStep.{tied-after}

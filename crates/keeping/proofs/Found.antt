@@ -1,21 +1,18 @@
 -- Over a path that agrees with the server, finish finds exactly the blocks that stand on the way. Assumes nothing.
-use Prim.Native.Nat.{ℕ, zero, suc, _+_, _-_, _*_, _/_, _%_, _^_, _<_, _≤_}
+use Prim.Native.Nat.{ℕ, zero, suc, _+_, _-_, _/_, _%_, _^_, _<_}
 use mathlib.Core.Path.{_≡_, refl, sym, ap, ap₂, _∙_}
-use mathlib.Core.Logic.{_≢_}
-use mathlib.Core.Bool.{Bool, true, false, cond, not, _&&_}
-use mathlib.Core.List.{List, [], _∷_, _++_}
+use mathlib.Core.Bool.{Bool, true, false}
+use mathlib.Core.List.{List, []}
 use native.Mathlib.Omega.{arith}
 use native.Mathlib.Nat.{div-eq-of-lt}
 use lib.Dec.{eqb}
-use borrow.Author.Tests.{eqb-true, eqb-false}
-use Rattle.words.proofs.Tests.{byCases}
 use Rattle.sizes.specs.declared.Sizes.{Sizes}
 use Rattle.sizes.specs.Sizes.{leaves}
 use Rattle.bags.specs.Bags.{cnt}
 use Rattle.bags.proofs.Bags.{cnt-append}
 use Rattle.slots.specs.Slots.{Block}
 use Rattle.items.specs.declared.View.{View}
-use Rattle.items.specs.Items.{Means, flagOf}
+use Rattle.items.specs.Items.{Means}
 use Rattle.items.specs.Way.{reachable}
 use Rattle.opening.specs.Opening.{foundAt, foundTo}
 use Rattle.keeping.specs.Server.{Server, Agrees, blocksAt, leads, standing}

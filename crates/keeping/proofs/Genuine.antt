@@ -1,16 +1,15 @@
 -- The invariant, and its first consequence: a path that agrees with the server passes every check of step 2. Assumes nothing.
-use Prim.Native.Nat.{ℕ, zero, suc, _+_, _-_, _*_, _/_, _%_, _^_, _<_, _≤_}
-use mathlib.Core.Path.{_≡_, refl, sym, ap, ap₂, _∙_}
+use Prim.Native.Nat.{ℕ, zero, suc, _+_, _/_, _^_, _<_, _≤_}
+use mathlib.Core.Path.{_≡_, refl, sym, ap, _∙_}
 use mathlib.Core.Logic.{_≢_}
-use mathlib.Core.Bool.{Bool, true, false, cond, not, _&&_}
+use mathlib.Core.Bool.{Bool, true, false, not, _&&_}
 use mathlib.Core.List.{List, [], _∷_, _++_}
 use native.Mathlib.Omega.{arith}
-use mathlib.Core.Option.{Option, none, some}
+use mathlib.Core.Option.{some}
 use native.Mathlib.Nat.{div-eq-of-lt}
 use lib.ListN.{length}
 use lib.Dec.{eqb, leb}
 use borrow.Author.Tests.{eqb-true, eqb-false, eq-eqb, le-leb, leb-true}
-use Rattle.words.specs.Tests.{Each}
 use Rattle.words.proofs.Tests.{byCases, each}
 use Rattle.sizes.specs.Sizes.{leaves, recordLen}
 use Rattle.bags.specs.Bags.{cnt, Same, AllOf}
@@ -19,7 +18,7 @@ use Rattle.slots.specs.Slots.{Block}
 use Rattle.desk.specs.Layout.{idsOf}
 use Rattle.desk.specs.Readers.{sizesOf, heightOf, keyOf, rootOf, isWritten, isMarked, positionOf, stashOf, idAsked, leafAsked}
 use Rattle.items.specs.Items.{Means}
-use Rattle.opening.specs.Opening.{viewOf, isId, foundAt, foundTo, found, gathered, Reach, Genuine}
+use Rattle.opening.specs.Opening.{viewOf, isId, foundTo, found, gathered, Genuine}
 use Rattle.keeping.specs.Server.{Server, Agrees, standing}
 use Rattle.keeping.specs.Table.{Table, isHeld, tableBlocks}
 use Rattle.keeping.proofs.Lists.{all-map, all-pass, either}

@@ -1,9 +1,9 @@
 -- The blocks that stand for a table: which tests they pass, and how often. Assumes nothing.
-use Prim.Native.Nat.{ℕ, zero, suc, _+_, _-_, _*_, _/_, _%_, _^_, _<_, _≤_}
-use mathlib.Core.Path.{_≡_, refl, sym, ap, ap₂, _∙_}
+use Prim.Native.Nat.{ℕ, zero, suc, _+_, _<_, _≤_}
+use mathlib.Core.Path.{_≡_, refl, sym, ap₂, _∙_}
 use mathlib.Core.Logic.{_≢_}
-use mathlib.Core.Bool.{Bool, true, false, cond, not, _&&_}
-use mathlib.Core.List.{List, [], _∷_, _++_}
+use mathlib.Core.Bool.{Bool, true, false}
+use mathlib.Core.List.{List, [], _∷_}
 use native.Mathlib.Omega.{arith}
 use mathlib.Core.Option.{Option, none, some}
 use lib.Dec.{eqb}
@@ -12,7 +12,6 @@ use Rattle.words.proofs.Tests.{byCases}
 use Rattle.bags.specs.Bags.{bit, cnt, AllOf}
 use Rattle.bags.proofs.Bags.{cnt-append}
 use Rattle.slots.specs.Slots.{Block}
-use Rattle.desk.specs.Readers.{positionOf}
 use Rattle.opening.specs.Opening.{isId}
 use Rattle.keeping.specs.Table.{Table, isHeld, blockOf, placeOf, tableBlocks}
 use Rattle.keeping.proofs.Lists.{no-true, all-map}

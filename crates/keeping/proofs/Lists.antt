@@ -1,12 +1,11 @@
 -- Small laws of tests and lists that the invariant needs. Assumes nothing.
-use Prim.Native.Nat.{ℕ, suc, _+_, _≤_, _<_}
-use mathlib.Core.Path.{_≡_, refl, sym, ap, ap₂, _∙_}
+use Prim.Native.Nat.{ℕ, _+_, _≤_}
+use mathlib.Core.Path.{_≡_, refl}
 use mathlib.Core.Bool.{Bool, true, false, not, _&&_, _||_}
-use mathlib.Core.List.{List, [], _∷_, _++_}
+use mathlib.Core.List.{List, [], _∷_}
 use native.Mathlib.Omega.{arith}
 use Rattle.words.proofs.Tests.{byCases}
-use Rattle.bags.specs.Bags.{bit, cnt, those, AllOf}
-use Rattle.bags.proofs.Bags.{cnt-append}
+use Rattle.bags.specs.Bags.{cnt, those, AllOf}
 
 -- for words
 

@@ -1,17 +1,16 @@
 -- From the invariant's bag: every id ever written stands in exactly one place, and there are as many blocks as ids ever written. Assumes nothing.
-use Prim.Native.Nat.{ℕ, zero, suc, _+_, _-_, _*_, _/_, _%_, _^_, _<_, _≤_}
+use Prim.Native.Nat.{ℕ, zero, suc, _+_, _<_, _≤_}
 use mathlib.Core.Path.{_≡_, refl, sym, ap, ap₂, _∙_}
-use mathlib.Core.Logic.{_≢_}
-use mathlib.Core.Bool.{Bool, true, false, cond, not, _&&_}
-use mathlib.Core.List.{List, [], _∷_, _++_}
+use mathlib.Core.Bool.{Bool, true, false, not, _&&_}
+use mathlib.Core.List.{List, [], _∷_}
 use native.Mathlib.Omega.{arith}
 use mathlib.Core.Option.{Option, none, some}
 use lib.ListN.{length, length-append}
 use lib.Dec.{eqb}
-use borrow.Author.Tests.{eqb-true, eqb-false, eq-eqb}
+use borrow.Author.Tests.{eqb-true, eq-eqb}
 use Rattle.words.specs.Bytes.{same}
 use Rattle.words.proofs.Tests.{byCases, and-left, and-right, same-eq, same-refl}
-use Rattle.bags.specs.Bags.{bit, cnt, those, Same}
+use Rattle.bags.specs.Bags.{cnt, those, Same}
 use Rattle.bags.proofs.Bags.{same-length}
 use Rattle.slots.specs.Slots.{Block}
 use Rattle.desk.specs.Readers.{positionOf}

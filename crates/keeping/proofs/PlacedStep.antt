@@ -1,23 +1,23 @@
 -- The blocks that an accepted finish places or keeps in the stash: each is the table's, under its new position, so that slots can hold it, its bucket
 -- lies on its way, and a good stash may have it. Assumes nothing.
-use Prim.Native.Nat.{ℕ, zero, suc, _+_, _-_, _*_, _/_, _%_, _^_, _<_, _≤_}
-use mathlib.Core.Path.{_≡_, refl, sym, ap, ap₂, subst, _∙_}
+use Prim.Native.Nat.{ℕ, suc, _+_, _-_, _<_, _≤_}
+use mathlib.Core.Path.{_≡_, refl, sym, ap, subst, _∙_}
 use mathlib.Core.Logic.{_≢_}
-use mathlib.Core.Bool.{Bool, true, false, cond, not, _&&_}
-use mathlib.Core.List.{List, [], _∷_, _++_}
+use mathlib.Core.Bool.{Bool, true, false, not}
+use mathlib.Core.List.{List, [], _∷_}
 use native.Mathlib.Omega.{arith}
 use mathlib.Core.Option.{Option, none, some}
 use lib.ListN.{length, getD}
 use lib.Dec.{eqb, leb, ltb}
-use borrow.Author.Tests.{eqb-true, eqb-false, eq-eqb, ne-eqb, le-leb, lt-ltb, leb-true, ltb-true}
+use borrow.Author.Tests.{eqb-true, eqb-false, eq-eqb, le-leb, lt-ltb, leb-true, ltb-true}
 use Rattle.words.specs.Numbers.{number}
 use Rattle.words.specs.Tests.{every, Each}
 use Rattle.words.proofs.Splice.{length-part}
 use Rattle.words.proofs.Tests.{byCases, each, every-of}
 use Rattle.sizes.specs.Sizes.{leaves, recordLen, requestHead}
 use Rattle.sizes.proofs.Lengths.{leaves-most}
-use Rattle.bags.specs.Bags.{cnt, those, flat, All, AllOf}
-use Rattle.slots.specs.Slots.{Block, Fits, AllFit}
+use Rattle.bags.specs.Bags.{cnt, flat, All, AllOf}
+use Rattle.slots.specs.Slots.{Block, AllFit}
 use Rattle.desk.specs.declared.Kind.{Kind}
 use Rattle.desk.specs.declared.Kind.the-variants.{Read, Write}
 use Rattle.desk.specs.Layout.{cAt, shapeLen, idsOf, shapeOf, placeAt, markIn}

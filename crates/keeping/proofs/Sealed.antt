@@ -1,17 +1,16 @@
 -- The blocks in a sealed item are those that were laid into it, and its counter is the one given. Assumes nothing but what is asked of a cipher.
-use Prim.Native.Nat.{ℕ, zero, suc, _+_, _-_, _*_, _/_, _%_, _^_, _<_, _≤_}
-use mathlib.Core.Path.{_≡_, refl, sym, ap, ap₂, _∙_}
+use Prim.Native.Nat.{ℕ, zero, suc, _+_, _-_, _*_, _^_, _<_, _≤_}
+use mathlib.Core.Path.{_≡_, refl, ap, ap₂, _∙_}
 use mathlib.Core.Logic.{_≢_}
-use mathlib.Core.Bool.{Bool, true, false, cond, not, _&&_}
+use mathlib.Core.Bool.{Bool, not}
 use mathlib.Core.List.{List, [], _∷_, _++_}
 use native.Mathlib.Omega.{arith}
 use mathlib.Core.List.{append-assoc}
 use native.Mathlib.Nat.{zero-add, suc-add}
-use lib.ListN.{length, take, drop, replicate, length-append, length-replicate}
+use lib.ListN.{length, drop, length-append, length-replicate}
 use lib.Seq.{take-at, drop-at}
-use lib.Dec.{eqb}
 use borrow.Author.Tests.{ne-eqb}
-use Rattle.words.specs.Bytes.{part, zeros}
+use Rattle.words.specs.Bytes.{zeros}
 use Rattle.words.specs.Numbers.{number, bytesOf}
 use Rattle.words.proofs.Numbers.{length-bytesOf, number-bytesOf}
 use Rattle.sizes.specs.declared.Sizes.{Sizes}

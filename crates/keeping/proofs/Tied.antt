@@ -1,9 +1,9 @@
 -- A server whose reachable items are tied to the root digest: over a path that agrees with it, digests, flags and ways pass the checks. Assumes nothing.
 use Prim.Native.Nat.{ℕ, zero, suc, _+_, _-_, _*_, _/_, _%_, _^_, _<_, _≤_}
-use mathlib.Core.Path.{_≡_, refl, sym, ap, ap₂, _∙_}
-use mathlib.Core.Bool.{Bool, true, false, cond, _&&_}
-use mathlib.Core.Option.{Option, none, some}
-use mathlib.Core.List.{List, [], _∷_, _++_}
+use mathlib.Core.Path.{_≡_, refl, sym, ap, _∙_}
+use mathlib.Core.Bool.{Bool, true}
+use mathlib.Core.Option.{some}
+use mathlib.Core.List.{List}
 use native.Mathlib.Omega.{arith}
 use native.Mathlib.Nat.{div-eq-of-lt}
 use lib.ListN.{length}
@@ -12,17 +12,16 @@ use borrow.Author.Tests.{eqb-true, eqb-false}
 use Rattle.words.proofs.Splice.{length-part}
 use Rattle.words.proofs.Tests.{byCases, and-left, and-right}
 use Rattle.sizes.specs.declared.Sizes.{Sizes}
-use Rattle.sizes.specs.Sizes.{leaves, itemLen, itemAt, itemOf, pathLen, bucketNo, placeIn, bucketAt, sideAt}
+use Rattle.sizes.specs.Sizes.{leaves, itemLen, itemAt, pathLen, bucketNo, placeIn, bucketAt}
 use Rattle.sizes.proofs.Lengths.{item-fits}
 use Rattle.bags.specs.Bags.{AllOf}
-use Rattle.slots.specs.Slots.{Block}
 use Rattle.items.specs.declared.View.{View}
 use Rattle.items.specs.Items.{Means, counterOf, flagOf, digestOf, masked, itemDigest}
 use Rattle.items.specs.Way.{item, side, reachable, digestDue}
 use Rattle.opening.specs.Opening.{foundAt}
 use Rattle.keeping.specs.Server.{Server, Returns, Agrees, orNil, blocksAt, leads}
 use Rattle.keeping.proofs.Lists.{all-map}
-use Rattle.keeping.proofs.Alike.{Alike, masked-alike, counter-same, blocks-same}
+use Rattle.keeping.proofs.Alike.{Alike, masked-alike, blocks-same}
 use Rattle.keeping.proofs.Standing.{half}
 
 module _ (m : Means) (s : Sizes) (key : List ℕ) (server : Server) where

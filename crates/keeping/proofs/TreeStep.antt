@@ -1,26 +1,25 @@
 -- The server after a path was written as step 6 writes it is tied to the new root digest. Assumes nothing but what is asked of digest and cipher.
-use Prim.Native.Nat.{ℕ, zero, suc, _+_, _-_, _*_, _/_, _%_, _^_, _<_, _≤_}
-use mathlib.Core.Path.{_≡_, refl, sym, ap, ap₂, _∙_}
+use Prim.Native.Nat.{ℕ, zero, suc, _+_, _-_, _*_, _/_, _^_, _<_, _≤_}
+use mathlib.Core.Path.{_≡_, refl, sym, ap, _∙_}
 use mathlib.Core.Logic.{_≢_}
-use mathlib.Core.Bool.{Bool, true, false, cond, not, _&&_}
-use mathlib.Core.List.{List, [], _∷_, _++_}
+use mathlib.Core.Bool.{Bool, true, _&&_}
+use mathlib.Core.List.{List, []}
 use native.Mathlib.Omega.{arith}
 use mathlib.Core.Bool.{and-false}
-use mathlib.Core.Option.{Option, none, some}
+use mathlib.Core.Option.{some}
 use native.Mathlib.Nat.{div-eq-of-lt}
 use lib.ListN.{length, getD}
-use lib.Dec.{eqb, leb}
+use lib.Dec.{eqb}
 use borrow.Author.Tests.{eqb-true, eqb-false, eq-eqb, ne-eqb, le-leb}
 use Rattle.words.proofs.Tests.{byCases, below-or, and-left, and-right}
 use Rattle.sizes.specs.declared.Sizes.{Sizes}
-use Rattle.sizes.specs.Sizes.{leaves, itemOf, pathLen, placeIn, sideAt}
+use Rattle.sizes.specs.Sizes.{leaves, placeIn}
 use Rattle.sizes.proofs.Buckets.{next-place}
-use Rattle.bags.specs.Bags.{AllOf}
 use Rattle.slots.specs.Slots.{Block}
 use Rattle.items.specs.declared.View.{View}
-use Rattle.items.specs.Items.{Means, Sound, counterOf, flagOf, digestOf, itemDigest, blocksIn}
+use Rattle.items.specs.Items.{Means, Sound, counterOf, flagOf, digestOf, itemDigest}
 use Rattle.items.specs.Way.{item, side, reachable, digestDue}
-use Rattle.writing.specs.Writing.{newCounter, isKept, newFlag, newDigest, written, pathWritten, rootWritten}
+use Rattle.writing.specs.Writing.{newCounter, isKept, newFlag, written, pathWritten, rootWritten}
 use Rattle.opening.specs.Opening.{lastCounter}
 use Rattle.keeping.specs.Server.{Server, Agrees, wrote, orNil, leads}
 use Rattle.keeping.proofs.Standing.{half, same-bucket}

@@ -1,17 +1,16 @@
 -- The items of a path as step 6 writes it: where each lies, its length, and its fields. Assumes nothing but what is asked of digest and cipher.
-use Prim.Native.Nat.{ℕ, zero, suc, _+_, _-_, _*_, _/_, _%_, _^_, _<_, _≤_}
-use mathlib.Core.Path.{_≡_, refl, sym, ap, ap₂, _∙_}
+use Prim.Native.Nat.{ℕ, zero, suc, _+_, _-_, _*_, _^_, _<_, _≤_}
+use mathlib.Core.Path.{_≡_, refl, sym, ap, _∙_}
 use mathlib.Core.Logic.{_≢_}
-use mathlib.Core.Bool.{Bool, true, false, cond, not, _&&_}
 use mathlib.Core.List.{List, [], _∷_, _++_}
 use native.Mathlib.Omega.{arith}
 use mathlib.Core.List.{append-nil}
-use native.Mathlib.Nat.{zero-mul, zero-add}
-use lib.ListN.{length, getD, take, drop, length-append}
+use native.Mathlib.Nat.{zero-mul}
+use lib.ListN.{length, getD, take, length-append}
 use lib.Seq.{take-at, drop-at, getD-append-add}
 use lib.Dec.{eqb}
-use Rattle.words.specs.Bytes.{part, zeros}
-use Rattle.words.proofs.Splice.{length-part, length-zeros, part-left, part-right, part-whole}
+use Rattle.words.specs.Bytes.{part}
+use Rattle.words.proofs.Splice.{length-part, length-zeros, part-right, part-whole}
 use Rattle.words.proofs.Tests.{byCases, below-or}
 use Rattle.sizes.specs.declared.Sizes.{Sizes}
 use Rattle.sizes.specs.Sizes.{recordLen, flagsLen, digestLen, leafLen, innerLen, itemLen, itemAt, itemOf, pathLen, placeIn, flagAt, digestAt}
@@ -19,9 +18,9 @@ use Rattle.sizes.proofs.Lengths.{inner-item, leaf-item, next-item, item-fits}
 use Rattle.bags.specs.Bags.{AllOf}
 use Rattle.slots.specs.Slots.{Block, AllFit}
 use Rattle.items.specs.declared.View.{View}
-use Rattle.items.specs.Items.{Means, Sound, counterOf, flagOf, digestOf, masked, itemDigest, blocksIn, sealed}
-use Rattle.items.specs.Way.{item, bucket, side, reachable}
-use Rattle.writing.specs.Writing.{newCounter, newHead, isKept, newFlag, newDigest, newInner, Written, above, written, pathWritten}
+use Rattle.items.specs.Items.{Means, Sound, counterOf, flagOf, digestOf, masked, itemDigest, blocksIn}
+use Rattle.items.specs.Way.{item, bucket, side}
+use Rattle.writing.specs.Writing.{newCounter, newHead, isKept, newFlag, newDigest, newInner, written, pathWritten}
 use Rattle.keeping.proofs.Sealed.{sealed-length, sealed-counter, sealed-holds}
 
 -- blocks that may lie in the bucket at level k of the path to a leaf

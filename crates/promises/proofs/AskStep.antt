@@ -1,27 +1,23 @@
 -- An ask keeps what stands: a refusal leaves the state as it was, and an accepted one opens the request. Assumes nothing.
-use Prim.Native.Nat.{ℕ, zero, suc, _<_, _≤_}
-use mathlib.Core.Path.{_≡_, refl, sym, ap, ap₂, subst, _∙_}
-use mathlib.Core.Bool.{Bool, true, false, cond, not, _&&_}
-use mathlib.Core.Option.{Option, none, some}
-use mathlib.Core.List.{List, [], _∷_}
+use Prim.Native.Nat.{ℕ, _<_, _≤_}
+use mathlib.Core.Path.{_≡_, refl, sym, ap, subst, _∙_}
+use mathlib.Core.Bool.{true, cond}
+use mathlib.Core.List.{List}
 use native.Mathlib.Omega.{arith}
-use lib.Dec.{eqb, leb}
-use borrow.Author.Tests.{eqb-true, eqb-false, le-leb, lt-leb}
-use Rattle.words.proofs.Tests.{byCases}
+use lib.Dec.{eqb}
+use borrow.Author.Tests.{le-leb, lt-leb}
 use Rattle.sizes.specs.declared.Sizes.{Sizes}
-use Rattle.sizes.specs.declared.Refusal.{Refusal}
 use Rattle.sizes.specs.declared.Outcome.{Outcome}
 use Rattle.sizes.specs.declared.Outcome.the-variants.{Done, Refused}
 use Rattle.sizes.specs.Sizes.{leaves, recordLen}
-use Rattle.desk.specs.Layout.{idsOf, shapeOf}
+use Rattle.desk.specs.Layout.{idsOf}
 use Rattle.desk.specs.Readers.{sizesOf, statusOf, idAsked, newLeaf, positionOf}
 use Rattle.desk.specs.Status.{readyStatus, openStatus}
-use Rattle.desk.specs.Good.{goodDesk}
 use Rattle.desk.proofs.Changed.{same-ids, same-room, same-sizes}
 use Rattle.items.specs.Items.{Means}
 use Rattle.asks.specs.declared.Asked.{Asked}
 use Rattle.asks.specs.declared.Asked.the-variants as asked
-use Rattle.asks.specs.Ask.{recordFits, askRows, askChecked, askedOf, askOf, opened}
+use Rattle.asks.specs.Ask.{recordFits, askChecked, askedOf, opened}
 use Rattle.asks.proofs.Passed.{AskPassed}
 use Rattle.asks.proofs.Opened.{opened-changed, opened-good, opened-kind, opened-id, opened-leaf, opened-record}
 use Rattle.keeping.proofs.Carry.{same-position, inv-kept}
@@ -29,7 +25,7 @@ use Rattle.promises.specs.Stores.{ours, Start, Request}
 use Rattle.promises.specs.Steps.{State, askFor, afterAsk, onlyDesk}
 use Rattle.promises.proofs.One.{demand-one}
 use Rattle.promises.proofs.Moves.{leaf-asked}
-use Rattle.promises.proofs.Stands.{Opened, Stands}
+use Rattle.promises.proofs.Stands.{Stands}
 
 module _ (m : Means) (b : Start) (st : State) (v : Stands m b st) where
   -- the state with the same desk

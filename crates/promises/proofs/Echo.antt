@@ -1,9 +1,9 @@
 -- A store that works at the first finish and then only echoes is shut out by demand 2: a record is written, and read back over an honest server. Assumes
 -- nothing but what is asked of digest and cipher.
-use Prim.Native.Nat.{ℕ, zero, suc, _+_, _<_, _≤_}
-use mathlib.Core.Path.{_≡_, refl, sym, ap, ap₂, subst, _∙_}
-use mathlib.Core.Bool.{Bool, true, false, cond}
-use mathlib.Core.Option.{Option, none, some}
+use Prim.Native.Nat.{ℕ, _≤_}
+use mathlib.Core.Path.{_≡_, refl, sym, ap, subst, _∙_}
+use mathlib.Core.Bool.{Bool, true}
+use mathlib.Core.Option.{some}
 use mathlib.Core.List.{List, [], _∷_}
 use native.Mathlib.Omega.{arith}
 use lib.ListN.{length, getD}
@@ -14,8 +14,8 @@ use Rattle.words.proofs.Splice.{length-zeros}
 use Rattle.sizes.specs.declared.Outcome.{Outcome}
 use Rattle.sizes.specs.declared.Outcome.the-variants.{Done}
 use Rattle.sizes.specs.Refusals.{keptOr}
-use Rattle.sizes.specs.Sizes.{sized, recordLen, pathLen, itemOf, placeIn}
-use Rattle.desk.specs.declared.Kind.the-variants.{Read, Write}
+use Rattle.sizes.specs.Sizes.{recordLen, pathLen, itemOf, placeIn}
+use Rattle.desk.specs.declared.Kind.the-variants.{Read}
 use Rattle.desk.specs.Readers.{kindAsked, writtenOf, isWritten, statusOf}
 use Rattle.desk.specs.Status.{readyStatus}
 use Rattle.items.specs.Items.{Means, Sound}
@@ -27,9 +27,9 @@ use Rattle.store.specs.declared.Finished.{Finished}
 use Rattle.store.specs.declared.Finished.the-variants as finished
 use Rattle.store.specs.Steps.{wasMarked, newPath}
 use Rattle.store.specs.Finish.{FinishResult, finishOf, finishChecked}
-use Rattle.keeping.specs.Server.{Server, wrote}
+use Rattle.keeping.specs.Server.{wrote}
 use Rattle.keeping.proofs.Plain.{some-inj}
-use Rattle.promises.specs.Stores.{Store, Request, Accepted}
+use Rattle.promises.specs.Stores.{Request, Accepted}
 use Rattle.promises.specs.Steps.{State, asks, finishes, afterAsk, accepted, afterFinish, after, askFor, finishFor, returned, Reached}
 use Rattle.promises.specs.DemandTwo.{Kept, DemandTwo}
 use Rattle.promises.specs.Wrong.{echo, echoIf, echoing}

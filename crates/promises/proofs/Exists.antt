@@ -1,27 +1,25 @@
 -- There are runs: what stands after format, and at the first request. Assumes nothing but what is asked of digest and cipher.
-use Prim.Native.Nat.{ℕ, zero, suc, _+_, _-_, _<_, _≤_}
+use Prim.Native.Nat.{ℕ, zero, suc, _-_, _<_, _≤_}
 use mathlib.Core.Path.{_≡_, refl, sym, ap, ap₂, subst, _∙_}
-use mathlib.Core.Logic.{_≢_}
-use mathlib.Core.Bool.{Bool, true, false, not, _&&_}
+use mathlib.Core.Bool.{Bool, true, false, not}
 use mathlib.Core.Option.{none, some}
-use mathlib.Core.List.{List, [], _∷_}
+use mathlib.Core.List.{List, _∷_}
 use native.Mathlib.Omega.{arith}
 use lib.ListN.{length, getD, drop}
 use lib.Dec.{eqb, ltb}
-use borrow.Author.Tests.{eq-eqb, ne-eqb, lt-ltb, eqb-true}
+use borrow.Author.Tests.{eq-eqb, lt-ltb}
 use Rattle.words.specs.Tests.{all}
 use Rattle.words.proofs.Tests.{byCases, and-left, all-true}
 use Rattle.sizes.specs.declared.Sizes.{Sizes}
 use Rattle.sizes.specs.declared.Outcome.the-variants.{Done}
 use Rattle.sizes.specs.Sizes.{leaves, recordLen, keyLen, pathLen, deskLen}
 use Rattle.sizes.proofs.Lengths.{range-sizes}
-use Rattle.bags.specs.Bags.{bit, cnt, flat}
+use Rattle.bags.specs.Bags.{cnt}
 use Rattle.bags.proofs.Bags.{cnt-true}
 use Rattle.slots.specs.Slots.{Block}
 use Rattle.desk.specs.Layout.{idsOf}
-use Rattle.desk.specs.Readers.{sizesOf, writtenOf, isWritten, statusOf, idAsked, leafAsked}
+use Rattle.desk.specs.Readers.{writtenOf, isWritten, statusOf, idAsked}
 use Rattle.desk.specs.Status.{readyStatus, openStatus}
-use Rattle.desk.specs.Good.{goodDesk}
 use Rattle.desk.proofs.Known.{ids-good}
 use Rattle.items.specs.declared.View.{View}
 use Rattle.items.specs.Items.{Means, Sound}
@@ -32,10 +30,10 @@ use Rattle.asks.specs.declared.Asked.the-variants as asked
 use Rattle.asks.specs.Ask.{recordFits, askOf, opened}
 use Rattle.asks.proofs.Passed.{AskPassed}
 use Rattle.asks.proofs.Opened.{opened-changed}
-use Rattle.formats.specs.Format.{formatRows, formatChecked, formatted}
-use Rattle.formats.proofs.Formatted.{new-written, new-status, formatted-good}
-use Rattle.store.specs.Steps.{placed, newStash}
-use Rattle.keeping.specs.Server.{Server, Returns, Agrees}
+use Rattle.formats.specs.Format.{formatChecked, formatted}
+use Rattle.formats.proofs.Formatted.{new-written, new-status}
+use Rattle.store.specs.Steps.{newStash}
+use Rattle.keeping.specs.Server.{Agrees}
 use Rattle.keeping.specs.Table.{tableBlocks}
 use Rattle.keeping.proofs.Lists.{no-true, cnt-both}
 use Rattle.keeping.proofs.Held.{none-of, few}
@@ -43,7 +41,7 @@ use Rattle.keeping.proofs.PlacedStep.{moved, after, bag}
 use Rattle.promises.specs.Stores.{ours, Start, formatFor, Request, Accepted}
 use Rattle.promises.specs.Steps.{State, begin, asks, afterAsk, askFor, finishFor, returned}
 use Rattle.promises.specs.Steps as steps
-use Rattle.promises.specs.DemandTwo.{Ready, WornOut, Kept}
+use Rattle.promises.specs.DemandTwo.{Ready, WornOut}
 use Rattle.promises.specs.DemandThree.{Around, finishThen, shownIf, goOn, shows, Run, leavesOf}
 use Rattle.promises.specs.Exists.{Proper, InBounds, Exists}
 use Rattle.promises.proofs.Three.{passed, format-desk}

@@ -1,10 +1,10 @@
 -- A finish keeps what stands, over any path that agrees with the server where it is reachable. Assumes nothing but what is asked of digest and cipher.
-use Prim.Native.Nat.{ℕ, zero, suc, _<_, _≤_}
+use Prim.Native.Nat.{ℕ, _<_, _≤_}
 use mathlib.Core.Path.{_≡_, refl, sym, ap, ap₂, subst, _∙_}
 use mathlib.Core.Logic.{_≢_}
-use mathlib.Core.Bool.{Bool, true, false, cond}
-use mathlib.Core.Option.{Option, none, some}
-use mathlib.Core.List.{List, [], _∷_}
+use mathlib.Core.Bool.{true}
+use mathlib.Core.Option.{Option, none}
+use mathlib.Core.List.{List}
 use native.Mathlib.Omega.{arith}
 use lib.ListN.{length}
 use lib.Dec.{eqb}
@@ -15,12 +15,11 @@ use Rattle.sizes.specs.declared.Refusal.{Refusal}
 use Rattle.sizes.specs.declared.Refusal.the-variants.{BadDesk, Stopped, Open, NotOpen, BadId, BadLeaf, BadLength, BadSize, Forged, Worn, Full}
 use Rattle.sizes.specs.declared.Outcome.{Outcome}
 use Rattle.sizes.specs.declared.Outcome.the-variants.{Done, Refused}
-use Rattle.sizes.specs.Refusals.{numberOf, keptOr}
 use Rattle.sizes.specs.Sizes.{recordLen, pathLen}
 use Rattle.desk.specs.declared.Kind.{Kind}
 use Rattle.desk.specs.declared.Kind.the-variants.{Read, Write}
 use Rattle.desk.specs.Layout.{idsOf, roomOf}
-use Rattle.desk.specs.Readers.{sizesOf, heightOf, statusOf, kindAsked, idAsked, newLeaf, recordAsked, leafAsked, positionOf}
+use Rattle.desk.specs.Readers.{sizesOf, heightOf, statusOf, kindAsked, idAsked, recordAsked, leafAsked, positionOf}
 use Rattle.desk.specs.Status.{readyStatus, openStatus, mostStatus, atStatus, stopped, stoppedOr}
 use Rattle.desk.specs.Good.{goodDesk}
 use Rattle.desk.proofs.Known.{known}
@@ -29,7 +28,7 @@ use Rattle.desk.proofs.Changed.{Changed, unchanged, status-changed, same-ids, s
 use Rattle.desk.proofs.Frame.{good-sound, stop-sound, changed-good}
 use Rattle.items.specs.Items.{Means, Sound, counterOf}
 use Rattle.items.specs.Way.{item, reachable}
-use Rattle.opening.specs.Opening.{viewOf, lastCounter, worn, Genuine}
+use Rattle.opening.specs.Opening.{viewOf, lastCounter}
 use Rattle.asks.specs.Ask.{recordBytes}
 use Rattle.store.specs.declared.Finished.{Finished}
 use Rattle.store.specs.declared.Finished.the-variants as finished
@@ -44,14 +43,13 @@ use Rattle.keeping.proofs.Written.{path-length}
 use Rattle.keeping.proofs.DeskStep.{partsNow, now-changed, now-good, inv-after}
 use Rattle.keeping.proofs.Carry.{inv-kept}
 use Rattle.keeping.proofs.Lists.{no-true}
-use Rattle.promises.specs.Stores.{ours, Start, Request}
-use Rattle.promises.specs.Steps.{State, finishFor, onlyDesk, tableDone, accepted, afterFinish}
-use Rattle.promises.specs.DemandTwo.{Ready}
+use Rattle.promises.specs.Stores.{Start, Request}
+use Rattle.promises.specs.Steps.{State, onlyDesk, tableDone, accepted, afterFinish}
 use Rattle.promises.proofs.One.{finished-refused, finished-done}
 use Rattle.promises.proofs.Three.{accept-record, accept-never, accept-done}
 use Rattle.promises.proofs.Exactly.{out-worn}
 use Rattle.promises.proofs.Past.{late-ready, Through, done-through}
-use Rattle.promises.proofs.Stands.{Opened, Stands}
+use Rattle.promises.proofs.Stands.{Stands}
 use Rattle.promises.proofs.AskStep.{same-desk}
 
 -- an open request names an id, at a leaf

@@ -1,13 +1,13 @@
 -- The test of step 2 is true exactly where each of its checks holds. Assumes nothing.
-use Prim.Native.Nat.{ℕ, zero, suc, _+_, _<_, _≤_}
-use mathlib.Core.Path.{_≡_, refl, sym, ap, _∙_}
-use mathlib.Core.Bool.{Bool, true, false, cond, not, _&&_, _||_}
-use mathlib.Core.List.{List, [], _∷_, _++_}
+use Prim.Native.Nat.{ℕ, suc, _<_, _≤_}
+use mathlib.Core.Path.{_≡_, refl}
+use mathlib.Core.Bool.{Bool, true, false}
+use mathlib.Core.List.{List, [], _∷_}
 use native.Mathlib.Omega.{arith}
-use lib.Dec.{eqb, leb, ltb}
+use lib.Dec.{eqb, leb}
 use borrow.Author.Tests.{eqb-true, eq-eqb, leb-true, le-leb, ltb-true, lt-ltb}
 use Rattle.words.specs.Bytes.{same}
-use Rattle.words.specs.Tests.{all, every, Each}
+use Rattle.words.specs.Tests.{all, Each}
 use Rattle.words.proofs.Tests.{and-left, and-right, all-at, all-true, each, every-of, same-eq, same-refl}
 use Rattle.sizes.specs.Sizes.{bucketAt}
 use Rattle.bags.specs.Bags.{cnt, AllOf}

@@ -1,25 +1,23 @@
 -- What stands gives what demand 2 asks of a state, over any paths that agree with the server. Assumes nothing but what is asked of digest and cipher.
-use Prim.Native.Nat.{ℕ, zero, suc, _+_, _-_, _<_, _≤_}
+use Prim.Native.Nat.{ℕ, suc, _+_, _-_, _<_, _≤_}
 use mathlib.Core.Path.{_≡_, refl, sym, ap, ap₂, subst, _∙_}
 use mathlib.Core.Logic.{_≢_, _↔_}
-use mathlib.Core.Bool.{Bool, true, false, cond}
+use mathlib.Core.Bool.{Bool, true}
 use mathlib.Core.Option.{Option, none, some}
-use mathlib.Core.List.{List, [], _∷_, _++_}
+use mathlib.Core.List.{List, [], _++_}
 use native.Mathlib.Omega.{arith}
 use lib.ListN.{length, getD, drop}
 use lib.Dec.{eqb}
 use Rattle.sizes.specs.declared.Sizes.{Sizes}
-use Rattle.sizes.specs.declared.Refusal.{Refusal}
-use Rattle.sizes.specs.declared.Refusal.the-variants.{Forged, Worn, Full}
-use Rattle.sizes.specs.declared.Outcome.{Outcome}
+use Rattle.sizes.specs.declared.Refusal.the-variants.{Forged, Full}
 use Rattle.sizes.specs.declared.Outcome.the-variants.{Done, Refused}
 use Rattle.sizes.specs.Sizes.{recordLen, countLen, itemOf}
 use Rattle.bags.specs.Bags.{those}
 use Rattle.slots.specs.Slots.{Block}
 use Rattle.slots.proofs.Blocks.{length-blocks}
 use Rattle.desk.specs.declared.Kind.{Kind}
-use Rattle.desk.specs.Layout.{eAt, idsOf, roomOf, shapeOf}
-use Rattle.desk.specs.Readers.{sizesOf, heightOf, keyOf, rootOf, writtenOf, isWritten, statusOf, isMarked, kindAsked, idAsked, leafAsked, stashCount, stashOf}
+use Rattle.desk.specs.Layout.{eAt, idsOf, shapeOf}
+use Rattle.desk.specs.Readers.{sizesOf, heightOf, keyOf, rootOf, isWritten, statusOf, kindAsked, idAsked, leafAsked, stashCount, stashOf}
 use Rattle.desk.specs.Status.{readyStatus, openStatus}
 use Rattle.desk.proofs.Exactly.{good-conditions}
 use Rattle.items.specs.Items.{Means, Sound, counterOf, flagOf, digestOf, itemDigest, blocksIn}
@@ -31,7 +29,7 @@ use Rattle.store.specs.declared.Finished.the-variants as finished
 use Rattle.store.specs.Steps.{placed, newStash, newPath, newDesk, wasMarked}
 use Rattle.store.specs.Finish.{finishOf, finishChecked}
 use Rattle.keeping.specs.Server.{Agrees, standing}
-use Rattle.keeping.specs.Table.{Table, isHeld, plainAnswer, plainBuffer, placeOf, everWritten}
+use Rattle.keeping.specs.Table.{isHeld, plainAnswer, plainBuffer, placeOf, everWritten}
 use Rattle.keeping.proofs.Lists.{no-true}
 use Rattle.keeping.proofs.Genuine.{agrees-genuine}
 use Rattle.keeping.proofs.Plain.{answers-plain}
@@ -40,14 +38,14 @@ use Rattle.keeping.proofs.PlacedStep.{laid}
 use Rattle.keeping.proofs.Written.{Lies, newItem, digestBelow, item-new, flag-new, digest-new, blocks-new, counter-new}
 use Rattle.keeping.proofs.TreeStep.{count-low}
 use Rattle.promises.specs.Stores.{ours, Start, Request, Accepted}
-use Rattle.promises.specs.Steps.{State, finishFor}
+use Rattle.promises.specs.Steps.{State}
 use Rattle.promises.specs.DemandTwo.{Ready, WornOut, blocksOfStore, Writes, Kept}
 use Rattle.promises.proofs.One.{finished-refused, finished-done}
 use Rattle.promises.proofs.Exactly.{exactly}
 use Rattle.promises.proofs.Past.{late-ready, Through, done-through}
 use Rattle.promises.proofs.Stands.{Stands}
 use Rattle.promises.proofs.AskStep.{ask-takes, ask-shows}
-use Rattle.promises.proofs.FinishStep.{asks-of, busy, asks, small, fresh, changed}
+use Rattle.promises.proofs.FinishStep.{asks-of, busy, asks, fresh, changed}
 
 same-request : (q r : Request) → some q ≡ some r → q ≡ r
 same-request q r e = cc

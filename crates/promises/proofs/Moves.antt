@@ -1,30 +1,26 @@
 -- A request that is accepted, whatever path came back, sets exactly its id's position, to the draw. Assumes nothing but that a digest has 32 bytes.
-use Prim.Native.Nat.{ℕ, zero, suc, pred, _+_, _-_, _*_, _<_, _≤_}
+use Prim.Native.Nat.{ℕ, zero, suc, pred, _+_, _<_, _≤_}
 use mathlib.Core.Path.{_≡_, refl, sym, ap, _∙_}
 use mathlib.Core.Logic.{_≢_, _⊎_, inl, inr, ⊎-elim}
-use mathlib.Core.Bool.{Bool, true, false, cond}
-use mathlib.Core.List.{List, [], _∷_, _++_, map}
+use mathlib.Core.Bool.{cond}
+use mathlib.Core.List.{List, map}
 use native.Mathlib.Omega.{arith}
 use native.Mathlib.Nat.{not-suc-le-zero}
-use lib.ListN.{length, getD, set, take, drop, length-append, length-take, length-map, length-set}
+use lib.ListN.{length, getD, set, length-append, length-take, length-map, length-set}
 use lib.Seq.{getD-set-same, getD-set-other, ext-getD}
 use lib.Dec.{eqb}
 use borrow.Author.Tests.{eqb-true, eqb-false}
 use Rattle.words.specs.Bytes.{splice, zeros}
-use Rattle.words.specs.Numbers.{number}
 use Rattle.words.proofs.Splice.{length-splice, length-zeros, getD-splice-before, getD-splice-after}
 use Rattle.words.proofs.Numbers.{number-ext}
 use Rattle.words.proofs.Tests.{byCases}
-use Rattle.sizes.specs.Sizes.{leaves, digestLen}
+use Rattle.sizes.specs.Sizes.{digestLen}
 use Rattle.sizes.proofs.Lengths.{leaves-most}
-use Rattle.sizes.specs.declared.Outcome.{Outcome}
-use Rattle.sizes.specs.declared.Outcome.the-variants.{Done, Refused}
-use Rattle.slots.specs.Slots.{Block}
+use Rattle.sizes.specs.declared.Outcome.the-variants.{Done}
 use Rattle.desk.specs.declared.Kind.{Kind}
-use Rattle.desk.specs.declared.Shape.{Shape}
 use Rattle.desk.specs.Layout.{bAt, cAt, cLen, dAt, eAt, shapeLen, statusAt, writtenAt, zeroAt, idsAt, idsOf, shapeOf, rootAt, placeAt}
 use Rattle.desk.specs.Readers.{sizesOf, heightOf, kindAsked, idAsked, newLeaf, positionOf}
-use Rattle.desk.specs.Status.{readyStatus, atStatus, stoppedOr}
+use Rattle.desk.specs.Status.{readyStatus, atStatus}
 use Rattle.desk.specs.Changes.{withRequest, withPlace, withRoot, withStash, stashBytes}
 use Rattle.desk.specs.View.{viewOf as partsOf, toPlace}
 use Rattle.desk.proofs.Known.{known}

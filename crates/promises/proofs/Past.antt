@@ -1,6 +1,6 @@
 -- What is known of a desk and a path where finish got past its first four rows. Assumes nothing.
-use Prim.Native.Nat.{ℕ, _<_, _≤_}
-use mathlib.Core.Path.{_≡_, refl, sym, ap, _∙_}
+use Prim.Native.Nat.{ℕ, _≤_}
+use mathlib.Core.Path.{_≡_, refl, ap}
 use mathlib.Core.Bool.{Bool, true, false, not, _&&_}
 use mathlib.Core.List.{List, [], _∷_}
 use native.Mathlib.Omega.{arith}
@@ -10,21 +10,19 @@ use borrow.Author.Tests.{eqb-true, eqb-false, leb-false, ltb-false, not-false}
 use Rattle.words.proofs.Tests.{and-left, and-right}
 use Rattle.sizes.specs.declared.Refusal.{Refusal}
 use Rattle.sizes.specs.declared.Refusal.the-variants.{BadDesk, Stopped, NotOpen, BadLength, Forged, Worn, Full}
-use Rattle.sizes.specs.declared.Outcome.{Outcome}
 use Rattle.sizes.specs.declared.Outcome.the-variants.{Done, Refused}
 use Rattle.sizes.specs.Sizes.{recordLen, pathLen}
 use Rattle.sizes.specs.Refusals.{numberOf, firstOf, NoneOf}
 use Rattle.sizes.proofs.Rows.{none-applies}
 use Rattle.desk.specs.Layout.{roomOf}
 use Rattle.desk.specs.Readers.{sizesOf, statusOf}
-use Rattle.desk.specs.Status.{openStatus, readyStatus, firstStopped}
+use Rattle.desk.specs.Status.{readyStatus, firstStopped}
 use Rattle.desk.specs.Good.{goodDesk}
 use Rattle.items.specs.Items.{Means}
 use Rattle.opening.specs.Opening.{genuine, worn}
 use Rattle.store.specs.Steps.{newStash}
 use Rattle.store.specs.Finish.{finishRows, finishChecked}
 use Rattle.promises.specs.DemandTwo.{Ready}
-use Rattle.promises.proofs.Rows.{done-refused}
 
 same-number : (p q : Refusal) → Refused p ≡ Refused q → numberOf p ≡ numberOf q
 same-number p q e = let f : p ≡ q = cc in ap numberOf f

@@ -1,30 +1,27 @@
 -- What stands in every state: the invariant of desk, server and table, and what the member's book has to do with the desk. It stands after format. Assumes
 -- nothing.
-use Prim.Native.Nat.{ℕ, zero, suc, _-_, _<_, _≤_}
+use Prim.Native.Nat.{ℕ, _-_, _≤_}
 use mathlib.Core.Path.{_≡_, refl, sym, ap, subst, _∙_}
 use mathlib.Core.Bool.{Bool, true, false, cond}
-use mathlib.Core.Option.{Option, none, some}
-use mathlib.Core.List.{List, [], _∷_, _++_}
+use mathlib.Core.Option.{none, some}
+use mathlib.Core.List.{List, [], _++_}
 use native.Mathlib.Omega.{arith}
-use lib.ListN.{length, getD}
+use lib.ListN.{getD}
 use lib.Dec.{eqb}
 use Rattle.sizes.specs.declared.Outcome.the-variants.{Done}
-use Rattle.sizes.specs.declared.Sizes.{Sizes}
-use Rattle.sizes.specs.Sizes.{recordLen}
 use Rattle.bags.specs.Bags.{cnt}
-use Rattle.slots.specs.Slots.{Block}
 use Rattle.desk.specs.Layout.{idsOf, roomOf}
-use Rattle.desk.specs.Readers.{sizesOf, keyOf, rootOf, writtenOf, isWritten, statusOf, idAsked, newLeaf, leafAsked, positionOf, markOf, isMarked, stashOf}
+use Rattle.desk.specs.Readers.{sizesOf, keyOf, rootOf, isWritten, statusOf, idAsked, newLeaf, leafAsked, positionOf, stashOf}
 use Rattle.desk.specs.Status.{readyStatus, openStatus}
 use Rattle.desk.specs.Good.{goodDesk}
 use Rattle.items.specs.Items.{Means}
 use Rattle.formats.specs.Format.{formatted}
-use Rattle.formats.proofs.Formatted.{formatted-good, new-status, new-written, new-sizes, new-key, new-root, new-ids, new-room, new-position, new-mark, new-blocks}
+use Rattle.formats.proofs.Formatted.{formatted-good, new-status, new-written, new-sizes, new-key, new-ids, new-room, new-position, new-mark, new-blocks}
 use Rattle.keeping.specs.Server.{Server, standing}
-use Rattle.keeping.specs.Table.{Table, isHeld, tableBlocks}
+use Rattle.keeping.specs.Table.{Table, isHeld}
 use Rattle.keeping.proofs.Standing.{nothing-stands}
 use Rattle.keeping.proofs.Held.{none-of}
-use Rattle.keeping.proofs.Tied.{Tied, tied-when}
+use Rattle.keeping.proofs.Tied.{tied-when}
 use Rattle.keeping.proofs.Genuine.{Inv}
 use Rattle.keeping.proofs.Lists.{no-true}
 use Rattle.promises.specs.Stores.{Start, formatFor, Request}

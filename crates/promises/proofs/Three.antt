@@ -1,8 +1,8 @@
 -- Demand 3 holds of our store: a run of asks and finishes shows a beginning of what ids and draws alone decide. Assumes nothing but that a digest has
 -- 32 bytes.
-use Prim.Native.Nat.{ℕ, zero, suc, pred, _+_, _-_, _<_, _≤_}
+use Prim.Native.Nat.{ℕ, pred, _+_, _-_, _<_, _≤_}
 use mathlib.Core.Path.{_≡_, refl, sym, ap, ap₂, _∙_}
-use mathlib.Core.List.{List, [], _∷_, _++_, map}
+use mathlib.Core.List.{List, [], _∷_, _++_}
 use native.Mathlib.Omega.{arith}
 use lib.ListN.{length, getD, set, take, drop, length-append, length-map, length-drop, List·getD-append}
 use lib.Seq.{ext-getD, length-take-le, getD-take}

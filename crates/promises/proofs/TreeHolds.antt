@@ -1,14 +1,13 @@
 -- A tree that holds what a server was last given: fetch from it returns that, and put into it writes it. Assumes nothing.
-use Prim.Native.Nat.{ℕ, zero, suc, _+_, _-_, _*_, _^_, _<_, _≤_}
+use Prim.Native.Nat.{ℕ, suc, _*_, _^_, _<_, _≤_}
 use mathlib.Core.Path.{_≡_, refl, sym, ap, subst, _∙_}
 use mathlib.Core.Logic.{_≢_}
-use mathlib.Core.Bool.{Bool, true, false, cond, _&&_}
-use mathlib.Core.Option.{Option, none, some}
+use mathlib.Core.Option.{some}
 use mathlib.Core.List.{List}
 use native.Mathlib.Nat.{pow-le-pow-right, pow-succ'}
 use native.Mathlib.Omega.{arith}
 use lib.ListN.{length}
-use lib.Dec.{eqb, leb}
+use lib.Dec.{eqb}
 use borrow.Author.Tests.{eqb-true, eqb-false, eq-eqb, le-leb, lt-leb}
 use Rattle.words.specs.Bytes.{part}
 use Rattle.words.proofs.Tests.{byCases, below-or}
@@ -19,8 +18,7 @@ use Rattle.sizes.specs.Refusals.{keptOr}
 use Rattle.sizes.specs.Sizes.{InRange, leaves, itemOf, pathLen, bucketNo, placeIn, bucketAt, treeAt, bucketIn, bucketCount, treeLen}
 use Rattle.sizes.proofs.Lengths.{range-sizes}
 use Rattle.sizes.proofs.Buckets.{item-bucket, place-below}
-use Rattle.tree.specs.Tree.{treeChecked, Fits, itemIn, fetched, putBack, fetchOf, putOf}
-use Rattle.tree.proofs.Checks.{checked-fits}
+use Rattle.tree.specs.Tree.{treeChecked, Fits, fetched, putBack, fetchOf, putOf}
 use Rattle.tree.proofs.Laws.{length-whole, item-fetched, length-putBack, put-on-way, put-elsewhere}
 use Rattle.keeping.specs.Server.{Server, Returns, wrote}
 use Rattle.keeping.proofs.Plain.{some-inj}

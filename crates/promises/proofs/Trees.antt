@@ -1,16 +1,14 @@
 -- Demand 2 holds of our store with fetch and put on the other side. Assumes nothing but what is asked of digest and cipher.
-use Prim.Native.Nat.{ℕ, suc, _<_, _≤_}
+use Prim.Native.Nat.{ℕ, _<_}
 use mathlib.Core.Path.{_≡_, refl, sym, ap, subst, _∙_}
-use mathlib.Core.Option.{none, some}
 use mathlib.Core.List.{List, [], _∷_}
-use native.Mathlib.Omega.{arith}
 use lib.ListN.{length}
 use Rattle.sizes.specs.declared.Sizes.{Sizes}
 use Rattle.sizes.specs.declared.Outcome.{Outcome}
 use Rattle.sizes.specs.declared.Outcome.the-variants.{Done, Refused}
 use Rattle.sizes.specs.Refusals.{keptOr}
-use Rattle.sizes.specs.Sizes.{InRange, leaves, recordLen, pathLen, treeLen}
-use Rattle.desk.specs.Readers.{sizesOf, statusOf, leafAsked}
+use Rattle.sizes.specs.Sizes.{InRange, leaves, pathLen, treeLen}
+use Rattle.desk.specs.Readers.{sizesOf, statusOf}
 use Rattle.desk.specs.Status.{openStatus}
 use Rattle.desk.proofs.Known.{known}
 use Rattle.items.specs.Items.{Means, Sound}
@@ -22,14 +20,13 @@ use Rattle.store.specs.declared.Finished.{Finished}
 use Rattle.store.specs.declared.Finished.the-variants as finished
 use Rattle.store.specs.Steps.{newPath}
 use Rattle.store.specs.Finish.{finishOf, finishChecked}
-use Rattle.keeping.specs.Server.{Server, Returns, Agrees, wrote}
+use Rattle.keeping.specs.Server.{Agrees, wrote}
 use Rattle.promises.specs.Stores.{ours, Start, formatFor, Request}
 use Rattle.promises.specs.Steps.{State, begin, askFor, afterAsk, afterFinish}
-use Rattle.promises.specs.DemandTwo.{Ready}
 use Rattle.promises.specs.Trees.{TreeState, Turn, asking, serving, fetchFor, putIf, served, turn, turns, TreeReached, fetchedBy, DemandTwoTree}
-use Rattle.promises.proofs.One.{finished-refused, finished-done}
+use Rattle.promises.proofs.One.{finished-done}
 use Rattle.promises.proofs.Three.{accept-record, accept-never, accept-done}
-use Rattle.promises.proofs.Past.{Through, done-through}
+use Rattle.promises.proofs.Past.{done-through}
 use Rattle.promises.proofs.Stands.{Stands, none-some, begin-stands}
 use Rattle.promises.proofs.AskStep.{ask-stands}
 use Rattle.promises.proofs.FinishStep.{asks-of, path-size, finish-stands}

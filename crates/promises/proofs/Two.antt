@@ -1,11 +1,9 @@
 -- Demand 2 holds of our store, over runs of any length: what stands after format stands after every event. Assumes nothing but what is asked of digest
 -- and cipher.
 use Prim.Native.Nat.{ℕ, _<_}
-use mathlib.Core.Path.{_≡_, refl, sym, ap, ap₂, subst, _∙_}
+use mathlib.Core.Path.{_≡_, sym, subst}
 use mathlib.Core.List.{List, [], _∷_}
-use lib.ListN.{length}
 use Rattle.sizes.specs.declared.Sizes.{Sizes}
-use Rattle.sizes.specs.Sizes.{recordLen, pathLen}
 use Rattle.desk.specs.Readers.{sizesOf, statusOf, leafAsked}
 use Rattle.desk.specs.Status.{openStatus}
 use Rattle.items.specs.Items.{Means, Sound}

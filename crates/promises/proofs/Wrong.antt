@@ -1,24 +1,23 @@
 -- Wrong stores are shut out by demand 2: those that refuse always, answer Never always, change nothing, write invented counters, or ask for leaf 0
 -- always. Assumes nothing but what is asked of digest and cipher.
-use Prim.Native.Nat.{ℕ, zero, suc, _+_, _*_, _<_, _≤_}
+use Prim.Native.Nat.{ℕ, zero, suc, _+_, _<_}
 use mathlib.Core.Path.{_≡_, refl, sym, ap, subst, _∙_}
-use mathlib.Core.Bool.{Bool, true, false, cond}
-use mathlib.Core.Option.{Option, none, some}
+use mathlib.Core.Bool.{Bool, false, cond}
+use mathlib.Core.Option.{none, some}
 use mathlib.Core.List.{List, [], _∷_}
 use native.Mathlib.Nat.{zero-mul}
 use native.Mathlib.Omega.{arith}
-use lib.ListN.{length, getD, set}
+use lib.ListN.{getD, set}
 use lib.Dec.{eqb}
-use Rattle.words.specs.Bytes.{part, zeros}
+use Rattle.words.specs.Bytes.{zeros}
 use Rattle.words.specs.Numbers.{number}
 use Rattle.words.proofs.Splice.{length-zeros, getD-part}
 use Rattle.sizes.specs.declared.Sizes.{Sizes}
-use Rattle.sizes.specs.declared.Refusal.the-variants.{BadDesk}
 use Rattle.sizes.specs.declared.Outcome.{Outcome}
 use Rattle.sizes.specs.declared.Outcome.the-variants.{Done}
 use Rattle.sizes.specs.Refusals.{keptOr}
 use Rattle.sizes.specs.Sizes.{sized, recordLen, keyLen, pathLen, deskLen, innerLen, itemLen, itemAt, itemOf}
-use Rattle.desk.specs.declared.Kind.the-variants.{Read, Write}
+use Rattle.desk.specs.declared.Kind.the-variants.{Write}
 use Rattle.desk.specs.Readers.{sizesOf, writtenOf}
 use Rattle.items.specs.Items.{Means, Sound, counterOf}
 use Rattle.items.specs.Way.{reachable}
@@ -26,17 +25,16 @@ use Rattle.items.proofs.Fields.{item-long}
 use Rattle.opening.specs.Opening.{viewOf}
 use Rattle.asks.specs.declared.Asked.{Asked}
 use Rattle.asks.specs.declared.Asked.the-variants as asked
-use Rattle.store.specs.declared.Finished.the-variants as finished
 use Rattle.store.specs.Steps.{newPath}
-use Rattle.store.specs.Finish.{FinishResult, finishOf, finishChecked}
-use Rattle.promises.specs.Stores.{Store, ours, Start, Request, Accepted}
-use Rattle.promises.specs.Steps.{State, begin, asks, finishes, afterAsk, askFor, after, returned, Reached}
+use Rattle.store.specs.Finish.{FinishResult, finishChecked}
+use Rattle.promises.specs.Stores.{Store, ours, Start, Request}
+use Rattle.promises.specs.Steps.{State, begin, asks, afterAsk, after, returned, Reached}
 use Rattle.promises.specs.DemandTwo.{Kept, DemandTwo}
 use Rattle.promises.specs.Exists.{Proper, InBounds}
 use Rattle.promises.specs.Wrong.{refusing, denying, idle, inventing, leafZero, zeroing}
 use Rattle.promises.proofs.One.{finished-done}
 use Rattle.promises.proofs.Three.{accept-never}
-use Rattle.promises.proofs.Exists.{proper-formats, start-ready, first-leaf, first, first-is, first-stands, first-unwritten, anything, first-ready, first-not-worn, first-few}
+use Rattle.promises.proofs.Exists.{proper-formats, start-ready, first-leaf, first, first-is, first-unwritten, anything, first-ready, first-not-worn, first-few}
 use Rattle.promises.proofs.More.{reached-begin, reached-more}
 
 -- ---- a small store: L = 1, Z = 1, S = 1, one id at leaf 1; and a first request: a write of zeros, with draw 1

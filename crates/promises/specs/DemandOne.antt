@@ -1,26 +1,25 @@
 -- Demand 1: every entry gives one result on every input, the first refusal that applies, and a refusal changes nothing but, at 9, 10 and 11, the
 -- status byte. That the entries end, and meet these definitions, is their contracts. Assumes nothing.
-use Prim.Native.Nat.{ℕ, zero, suc, _-_, _<_, _≤_}
+use Prim.Native.Nat.{ℕ, _-_, _<_, _≤_}
 use mathlib.Core.Path.{_≡_}
 use mathlib.Core.Logic.{_↔_}
 use mathlib.Core.Bool.{Bool, true, false}
-use mathlib.Core.List.{List, [], _∷_}
+use mathlib.Core.List.{List}
 use lib.ListN.{length, getD, set}
 use Rattle.sizes.specs.declared.Sizes.{Sizes}
 use Rattle.sizes.specs.declared.Refusal.{Refusal}
 use Rattle.sizes.specs.declared.Refusal.the-variants.{BadDesk}
-use Rattle.sizes.specs.declared.Outcome.{Outcome}
-use Rattle.sizes.specs.declared.Outcome.the-variants.{Done, Refused}
-use Rattle.sizes.specs.Refusals.{numberOf, firstOf}
+use Rattle.sizes.specs.declared.Outcome.the-variants.{Refused}
+use Rattle.sizes.specs.Refusals.{numberOf}
 use Rattle.desk.specs.declared.Kind.{Kind}
 use Rattle.desk.specs.Layout.{statusAt}
 use Rattle.items.specs.Items.{Means}
-use Rattle.tree.specs.Tree.{TreeResult, treeRows, fetchOf, putOf}
+use Rattle.tree.specs.Tree.{treeRows, fetchOf, putOf}
 use Rattle.asks.specs.declared.Asked.the-variants as asked
-use Rattle.asks.specs.Ask.{AskResult, askRows}
-use Rattle.formats.specs.Format.{FormatResult, formatRows}
+use Rattle.asks.specs.Ask.{askRows}
+use Rattle.formats.specs.Format.{formatRows}
 use Rattle.store.specs.declared.Finished.the-variants as finished
-use Rattle.store.specs.Finish.{FinishResult, finishRows}
+use Rattle.store.specs.Finish.{finishRows}
 use Rattle.promises.specs.Stores.{Store, Start, formatFor}
 
 -- ---- what a refusal changes

@@ -3,11 +3,11 @@ use Prim.Native.Nat.{ℕ, suc, _+_, _-_, _<_, _≤_}
 use mathlib.Core.Path.{_≡_}
 use mathlib.Core.Logic.{_≢_, _↔_}
 use mathlib.Core.Bool.{true, cond}
-use mathlib.Core.Option.{Option, none, some}
+use mathlib.Core.Option.{none, some}
 use mathlib.Core.List.{List, [], _++_}
 use lib.ListN.{length, getD}
 use Rattle.sizes.specs.declared.Refusal.the-variants.{Forged, Worn, Full}
-use Rattle.sizes.specs.Sizes.{recordLen, leaves, itemOf, pathLen, bucketAt, sideAt}
+use Rattle.sizes.specs.Sizes.{recordLen, leaves, itemOf, pathLen, bucketAt}
 use Rattle.bags.specs.Bags.{those}
 use Rattle.slots.specs.Slots.{Block}
 use Rattle.desk.specs.Layout.{roomOf}
@@ -15,18 +15,17 @@ use Rattle.desk.specs.Readers.{sizesOf, heightOf, keyOf, rootOf, isWritten, sta
 use Rattle.desk.specs.Status.{readyStatus, openStatus}
 use Rattle.desk.specs.Good.{goodDesk}
 use Rattle.items.specs.Items.{Means, counterOf, flagOf, digestOf, itemDigest, blocksIn}
-use Rattle.items.specs.Way.{item, reachable}
+use Rattle.items.specs.Way.{reachable}
 use Rattle.opening.specs.Opening.{viewOf, isId, lastCounter, Reach, Genuine}
-use Rattle.writing.specs.Writing.{newCounter, newFlag, newDigest}
+use Rattle.writing.specs.Writing.{newFlag, newDigest}
 use Rattle.asks.specs.declared.Asked.the-variants as asked
 use Rattle.asks.specs.Ask.{recordFits, recordBytes}
 use Rattle.store.specs.declared.Finished.the-variants as finished
 use Rattle.store.specs.Steps.{placed, newStash}
-use Rattle.store.specs.Finish.{finishOf}
 use Rattle.keeping.specs.Server.{standing}
 use Rattle.keeping.specs.Table.{plainAnswer, plainBuffer, placeOf, everWritten}
 use Rattle.promises.specs.Stores.{Store, Start, Request, Accepted}
-use Rattle.promises.specs.Steps.{State, askFor, finishFor, Hands, returned, agreeing, Reached}
+use Rattle.promises.specs.Steps.{State, askFor, finishFor, returned, agreeing, Reached}
 
 -- ---- Forged exactly if a check fails; Worn and Full by their rows: on any good open desk, whatever path comes back
 

@@ -1,6 +1,5 @@
 -- What the demands speak of: a store, what it is formatted with, and a request. Assumes nothing.
 use Prim.Native.Nat.{ℕ}
-use mathlib.Core.Path.{_≡_}
 use mathlib.Core.Logic.{_≢_}
 use mathlib.Core.List.{List}
 use Rattle.sizes.specs.declared.Sizes.{Sizes}

@@ -7,7 +7,6 @@ use lib.Dec.{eqb}
 use Rattle.words.specs.Bytes.{zeros}
 use Rattle.sizes.specs.declared.Refusal.the-variants.{BadDesk}
 use Rattle.sizes.specs.Refusals.{keptOr}
-use Rattle.desk.specs.declared.Kind.{Kind}
 use Rattle.desk.specs.Layout.{cLen, shapeOf}
 use Rattle.desk.specs.Readers.{kindAsked, writtenOf}
 use Rattle.desk.specs.Status.{readyStatus, atStatus}
