@@ -23,11 +23,11 @@ returns : tie.Need-returns
 returns c =
     let s = c .before .before .before .before .before .before .before .before .before .before .before .before .before .before .before in
     let a = s .args in
-    rw (c .before .before .before .before .before .before .before .before .before .before .before .before .if1 .taken) (
-      refl,
-      request-laid (a .bank .now) (c .before .before .before .before .before .before .before .before .before .before .put16 .last .0) (c .before .before .before .before .before .before .put162 .last .0) (c .before .before .copy .last .0) (a .«record» .now) (a .request .id) (a .request .leaf) (s .pre .0) (s .pre .1)
-          (c .before .before .before .before .before .before .before .before .before .before .put16 .ensures) (c .before .before .before .before .before .before .put162 .ensures) (c .before .before .copy .ensures),
-    )
+    let i = c .before .before .before .before .before .before .before .before .before .before .put16 in
+    let l = c .before .before .before .before .before .before .put162 in
+    let r = c .before .before .copy in
+    rw (c .before .before .before .before .before .before .before .before .before .before .before .before .if1 .taken)
+    (refl, request-laid (a .bank .now) (i .last .0) (l .last .0) (r .last .0) (a .«record» .now) (a .request .id) (a .request .leaf) (s .pre .0) (s .pre .1) (i .ensures) (l .ensures) (r .ensures))
 
 returns-2 : tie.Need-returns-2
 unfolding slotsBytes

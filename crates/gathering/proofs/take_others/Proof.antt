@@ -15,7 +15,10 @@ use Rattle.gathering.proofs.take_others.Statement.{statement}
 use Rattle.gathering.proofs.take_others.Tie as tie
 
 abbrev Inv-loop : tie.InvT-loop
-Inv-loop bank₀ m src a z id k₀ j₀ bank k j = ((j ≤ z) × (k ≤ m + j)) × (length bank ≡ length bank₀) × (k + length (leftFrom id z src a j) ≡ m + length (others id (blocksOf z (drop a src)))) × (splice bank (slotLen * k) (slotsBytes (leftFrom id z src a j)) ≡ splice bank₀ (slotLen * m) (slotsBytes (others id (blocksOf z (drop a src)))))
+Inv-loop bank₀ m src a z id k₀ j₀ bank k j =
+    ((j ≤ z) × (k ≤ m + j)) × (length bank ≡ length bank₀)
+    × (k + length (leftFrom id z src a j) ≡ m + length (others id (blocksOf z (drop a src))))
+    × (splice bank (slotLen * k) (slotsBytes (leftFrom id z src a j)) ≡ splice bank₀ (slotLen * m) (slotsBytes (others id (blocksOf z (drop a src)))))
 
 abbrev μ-loop : tie.MeasureT-loop
 μ-loop bank₀ m src a z id k₀ j₀ bank k j = z - j
@@ -71,8 +74,9 @@ loop-again-2 c =
     let w = c .before .before .copy-slot in
     let e = take-hit (a .id) (a .z) (a .src .now) (a .a) (l .j) (omega arith) (c .before .before .before .before .before .get16 .result) (c .before .before .before .before .before .get16 .ensures) (c .before .before .before .before .if1 .left) in
     let k : slotLen * l .k + slotLen ≡ slotLen * (l .k + 1) = omega arith in
-    let t = laid-turn (l .bank) (w .last .0) _ (slotLen * l .k) (blockFrom (a .src .now) (a .a) (l .j)) (leftFrom (a .id) (a .z) (a .src .now) (a .a) (l .j)) (leftFrom (a .id) (a .z) (a .src .now) (a .a) (l .j + 1))
-    e (fits-from (a .src .now) (a .a) (l .j) (λ i. omega (arith, c .before .before .before .before .before .before .before .before .shared-slice-known .given i)) (omega arith)) (omega arith) (w .ensures) (l .inv .3) in
+    let left = leftFrom (a .id) (a .z) (a .src .now) (a .a) in
+    let fits = fits-from (a .src .now) (a .a) (l .j) (λ i. omega (arith, c .before .before .before .before .before .before .before .before .shared-slice-known .given i)) (omega arith) in
+    let t = laid-turn (l .bank) (w .last .0) _ (slotLen * l .k) (blockFrom (a .src .now) (a .a) (l .j)) (left (l .j)) (left (l .j + 1)) e fits (omega arith) (w .ensures) (l .inv .3) in
     ((omega arith, omega arith), w .kept .0 ∙ l .inv .1, omega (arith, ap length e, l .inv .2), rw k at t)
 
 same-length : tie.Need-same-length Inv-loop μ-loop

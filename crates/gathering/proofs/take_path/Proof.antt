@@ -15,7 +15,10 @@ use Rattle.gathering.proofs.take_path.Statement.{statement}
 use Rattle.gathering.proofs.take_path.Tie as tie
 
 abbrev Inv-loop : tie.InvT-loop
-Inv-loop bank₀ m opened s n id z end₀ k₀ bank end k = ((k ≤ n) × (end ≤ m + mostSlots * k)) × (length bank ≡ length bank₀) × (end ≡ m + length (those (isOther id) (usedTo s opened k))) × (bank ≡ splice bank₀ (slotLen * m) (slotsBytes (those (isOther id) (usedTo s opened k))))
+Inv-loop bank₀ m opened s n id z end₀ k₀ bank end k =
+    ((k ≤ n) × (end ≤ m + mostSlots * k)) × (length bank ≡ length bank₀)
+    × (end ≡ m + length (those (isOther id) (usedTo s opened k)))
+    × (bank ≡ splice bank₀ (slotLen * m) (slotsBytes (those (isOther id) (usedTo s opened k))))
 
 abbrev μ-loop : tie.MeasureT-loop
 μ-loop bank₀ m opened s n id z end₀ k₀ bank end k = n - k

@@ -1,9 +1,8 @@
 -- `placing::bank::copy_slot` meets its contract: what is copied out of the array is what was copied into it, the slot. Assumes nothing.
 use mathlib.Core.Path.{_≡_, ap, _∙_}
-use mathlib.Core.List.{List}
-use Prim.Native.Nat.{ℕ}
 use native.Mathlib.Omega.{arith}
 use Rattle.words.specs.Bytes.{splice}
+use Rattle.slots.specs.Slots.{Bytes}
 use Rattle.placing.proofs.Laid.{slot-copied}
 use borrow.Author.Needs.{needs}
 use Rattle.placing.proofs.bank.copy_slot.Statement.{statement}
@@ -39,7 +38,9 @@ same-length c = search needs
 returns : tie.Need-returns
 returns c =
     let a = c .before .before .before .before .before .before .before .before .before .before .before .args in
-    c .before .before .copy2 .ensures ∙ ap (λ (ys : List ℕ). splice (a .dst .now) (a .at) ys) (c .before .before .before .before .before .before .copy .ensures ∙ slot-copied (a .src .now) (a .from) (λ i. omega (arith, c .before .before .before .before .before .before .before .before .before .shared-slice-known .given i)) (c .before .before .before .before .before .before .before .before .before .before .before .pre .1))
+    let bytes : Bytes (a .src .now) = λ i. omega (arith, c .before .before .before .before .before .before .before .before .before .shared-slice-known .given i) in
+    c .before .before .copy2 .ensures
+    ∙ ap (splice (a .dst .now) (a .at)) (c .before .before .before .before .before .before .copy .ensures ∙ slot-copied (a .src .now) (a .from) bytes (c .before .before .before .before .before .before .before .before .before .before .before .pre .1))
 
 pub copy-slot-spec : {M : Type 1} → statement M
 copy-slot-spec =

@@ -15,24 +15,34 @@ use Rattle.placing.proofs.bank.lay.Statement.{statement}
 use Rattle.placing.proofs.bank.lay.Tie as tie
 
 abbrev Inv-loop : tie.InvT-loop
-Inv-loop dst₀ a h at places bank k₀ i₀ dst k i = ((i ≤ length places) × (length dst ≡ length dst₀)) × (k + slotLen * length (leftOf h at bank places i) ≡ a + slotLen * length (pick h at (blocksAt bank places))) × (splice dst k (slotsBytes (leftOf h at bank places i)) ≡ splice dst₀ a (slotsBytes (pick h at (blocksAt bank places))))
+Inv-loop dst₀ a h at places bank k₀ i₀ dst k i =
+    ((i ≤ length places) × (length dst ≡ length dst₀))
+    × (k + slotLen * length (leftOf h at bank places i) ≡ a + slotLen * length (pick h at (blocksAt bank places)))
+    × (splice dst k (slotsBytes (leftOf h at bank places i)) ≡ splice dst₀ a (slotsBytes (pick h at (blocksAt bank places))))
 
 abbrev μ-loop : tie.MeasureT-loop
 μ-loop dst₀ a h at places bank k₀ i₀ dst k i = length places - i
 
--- what is left begins with the block at this place
-hit : (c : tie.After-wide Inv-loop μ-loop) → leftOf (c .before .before .before .before .before .before .before .before .before .before .before .args .h) (c .before .before .before .before .before .before .before .before .before .before .before .args .at .now) (c .before .before .before .before .before .before .before .before .before .before .before .args .bank .now) (c .before .before .before .before .before .before .before .before .before .before .before .args .places .now) (c .before .before .before .before .before .before .loop .i)
-    ≡ blockIn (c .before .before .before .before .before .before .before .before .before .before .before .args .bank .now) (c .wide .result) ∷ leftOf (c .before .before .before .before .before .before .before .before .before .before .before .args .h) (c .before .before .before .before .before .before .before .before .before .before .before .args .at .now) (c .before .before .before .before .before .before .before .before .before .before .before .args .bank .now) (c .before .before .before .before .before .before .before .before .before .before .before .args .places .now) (c .before .before .before .before .before .before .loop .i + 1)
-hit c =
-    let a = c .before .before .before .before .before .before .before .before .before .before .before .args in
-    rw (c .wide .ensures .0) (left-hit (a .h) (a .at .now) (a .bank .now) (a .places .now) (c .before .before .before .before .before .before .loop .i) (omega arith) (omega arith) (c .before .before .before .if1 .left))
+-- the function's start, and what is left after i places
+abbrev start : tie.After-wide Inv-loop μ-loop → tie.Start Inv-loop μ-loop
+start c = c .before .before .before .before .before .before .before .before .before .before .before
 
--- it lies in the bank, and there is room for it
-inside : (c : tie.After-wide Inv-loop μ-loop) → slotLen * c .wide .result + slotLen ≤ length (c .before .before .before .before .before .before .before .before .before .before .before .args .bank .now)
-inside c = rw (c .wide .ensures .0) (c .before .before .before .before .before .before .before .before .before .before .before .pre .0 .1 (c .before .before .before .before .before .before .loop .i) (omega arith))
+abbrev left : tie.After-wide Inv-loop μ-loop → ℕ → List Block
+left c i = leftOf (start c .args .h) (start c .args .at .now) (start c .args .bank .now) (start c .args .places .now) i
+
+-- it begins with the block at this place
+hit : (c : tie.After-wide Inv-loop μ-loop) → left c (c .before .before .before .before .before .before .loop .i) ≡ blockIn (start c .args .bank .now) (c .wide .result) ∷ left c (c .before .before .before .before .before .before .loop .i + 1)
+hit c =
+    let a = start c .args in
+    left-hit (a .h) (a .at .now) (a .bank .now) (a .places .now) (c .before .before .before .before .before .before .loop .i) (omega arith) (omega arith) (c .before .before .before .if1 .left)
+    ∙ ap (λ (p : ℕ). blockIn (a .bank .now) p ∷ left c (c .before .before .before .before .before .before .loop .i + 1)) (sym (c .wide .ensures .0))
+
+-- which lies in the bank, and there is room for it
+inside : (c : tie.After-wide Inv-loop μ-loop) → slotLen * c .wide .result + slotLen ≤ length (start c .args .bank .now)
+inside c = omega (arith, start c .pre .0 .1 (c .before .before .before .before .before .before .loop .i) (omega arith), c .wide .ensures .0)
 
 room : (c : tie.After-wide Inv-loop μ-loop) → c .before .before .before .before .before .before .loop .k + slotLen ≤ length (c .before .before .before .before .before .before .loop .dst)
-room c = omega (arith, ap length (hit c), c .before .before .before .before .before .before .loop .inv .1, c .before .before .before .before .before .before .loop .inv .0 .1, c .before .before .before .before .before .before .before .before .before .before .before .pre .1)
+room c = let l = c .before .before .before .before .before .before .loop in omega (arith, ap length (hit c), l .inv .1, l .inv .0 .1, start c .pre .1)
 
 loop-holds : tie.Need-loop-holds Inv-loop μ-loop
 loop-holds c = ((omega arith, refl), refl, refl)
@@ -81,14 +91,13 @@ loop-again-2 : tie.Need-loop-again-2 Inv-loop μ-loop
 unfolding blockIn
 loop-again-2 c =
     let l = c .before .before .before .before .before .before .before .before .before .loop in
-    let a = c .before .before .before .before .before .before .before .before .before .before .before .before .before .before .args in
-    let w = c .before .before .before .wide .result in
-    let s = c .before .before .copy-slot in (
+    let bank = c .before .before .before .before .before .before .before .before .before .before .before .before .before .before .args .bank .now in
+    let p = c .before .before .before .wide .result in
+    let s = c .before .before .copy-slot in
+    let fits = fits-in bank p (λ i. omega (arith, c .before .before .before .before .before .before .before .before .before .before .shared-slice-known3 .given i)) (inside (c .before .before .before)) in (
       (omega arith, s .kept .0 ∙ l .inv .0 .1),
       omega (arith, ap length (hit (c .before .before .before)), l .inv .1),
-      laid-turn (l .dst) (s .last .0) _ (l .k) (blockIn (a .bank .now) w) (leftOf (a .h) (a .at .now) (a .bank .now) (a .places .now) (l .i))
-          (leftOf (a .h) (a .at .now) (a .bank .now) (a .places .now) (l .i + 1)) (hit (c .before .before .before)) (fits-in (a .bank .now) w (λ i. omega (arith, c .before .before .before .before .before .before .before .before .before .before .shared-slice-known3 .given i)) (inside (c .before .before .before))) (room (c .before .before .before))
-          (s .ensures) (l .inv .2),
+      laid-turn (l .dst) (s .last .0) _ (l .k) (blockIn bank p) (left (c .before .before .before) (l .i)) (left (c .before .before .before) (l .i + 1)) (hit (c .before .before .before)) fits (room (c .before .before .before)) (s .ensures) (l .inv .2),
     )
 
 same-length : tie.Need-same-length Inv-loop μ-loop

@@ -16,7 +16,11 @@ use Rattle.placing.proofs.walk.assign.Statement.{statement}
 use Rattle.placing.proofs.walk.assign.Tie as tie
 
 abbrev Inv-loop : tie.InvT-loop
-Inv-loop bank places s leaf at₀ used₀ i₀ at used i = ((i ≤ length places) × (length at ≡ length at₀)) × ((length used ≡ mostHeights) × ((j : ℕ) → getD used j 0 ≤ i)) × (take i at ++ given s leaf used (blocksAt bank (drop i places)) ≡ given s leaf (zeros mostHeights) (blocksAt bank places)) × (usedIn s leaf used (blocksAt bank (drop i places)) ≡ usedIn s leaf (zeros mostHeights) (blocksAt bank places))
+Inv-loop bank places s leaf at₀ used₀ i₀ at used i =
+    ((i ≤ length places) × (length at ≡ length at₀))
+    × ((length used ≡ mostHeights) × ((j : ℕ) → getD used j 0 ≤ i))
+    × (take i at ++ given s leaf used (blocksAt bank (drop i places)) ≡ given s leaf (zeros mostHeights) (blocksAt bank places))
+    × (usedIn s leaf used (blocksAt bank (drop i places)) ≡ usedIn s leaf (zeros mostHeights) (blocksAt bank places))
 
 abbrev μ-loop : tie.MeasureT-loop
 μ-loop bank places s leaf at₀ used₀ i₀ at used i = length places - i
@@ -25,8 +29,11 @@ abbrev μ-loop : tie.MeasureT-loop
 inside : (c : tie.After-wide Inv-loop μ-loop) → slotLen * c .wide .result + slotLen ≤ length (c .before .before .before .before .before .before .before .args .bank .now)
 inside c = rw (c .wide .ensures .0) (c .before .before .before .before .before .before .before .pre .0 .1 (c .before .before .before .loop .i) (omega arith))
 
-leaf-is : (c : tie.After-wide2 Inv-loop μ-loop) → c .wide2 .result ≡ leafAt (c .before .before .before .before .before .before .before .before .before .args .bank .now) (getD (c .before .before .before .before .before .before .before .before .before .args .places .now) (c .before .before .before .before .before .loop .i) 0)
-leaf-is c = c .wide2 .ensures .0 ∙ c .before .get16 .ensures ∙ ap (leafAt (c .before .before .before .before .before .before .before .before .before .args .bank .now)) (c .before .before .wide .ensures .0)
+abbrev start : tie.After-wide2 Inv-loop μ-loop → tie.Start Inv-loop μ-loop
+start c = c .before .before .before .before .before .before .before .before .before
+
+leaf-is : (c : tie.After-wide2 Inv-loop μ-loop) → c .wide2 .result ≡ leafAt (start c .args .bank .now) (getD (start c .args .places .now) (c .before .before .before .before .before .loop .i) 0)
+leaf-is c = c .wide2 .ensures .0 ∙ c .before .get16 .ensures ∙ ap (leafAt (start c .args .bank .now)) (c .before .before .wide .ensures .0)
 
 loop-holds : tie.Need-loop-holds Inv-loop μ-loop
 loop-holds c = ((omega arith, refl), (refl, none-used mostHeights), refl, refl)
@@ -86,16 +93,18 @@ loop-again : tie.Need-loop-again Inv-loop μ-loop
 loop-again c =
     let l = c .before .before .before .before .before .before .before .loop in
     let a = c .before .before .before .before .before .before .before .before .before .before .before .args in
+    let bank = a .bank .now in
+    let ps = a .places .now in
     let h = c .seek .result in
-    let rest = given (a .s) (a .leaf) (bump (l .used) h) (blocksAt (a .bank .now) (drop (l .i + 1) (a .places .now))) in
-    let k : l .i < length (a .places .now) = omega arith in
-    let so : take (l .i) (l .at) ++ h ∷ rest ≡ given (a .s) (a .leaf) (zeros mostHeights) (blocksAt (a .bank .now) (a .places .now)) =
-    ap (λ (s : List ℕ). take (l .i) (l .at) ++ s) (sym (given-turn (a .s) (a .leaf) (a .bank .now) (l .used) (a .places .now) (l .i) k (c .before .before .wide2 .result) h (leaf-is (c .before .before)) (c .seek .ensures .0)))
+    let rest = given (a .s) (a .leaf) (bump (l .used) h) (blocksAt bank (drop (l .i + 1) ps)) in
+    let k : l .i < length ps = omega arith in
+    let so : take (l .i) (l .at) ++ h ∷ rest ≡ given (a .s) (a .leaf) (zeros mostHeights) (blocksAt bank ps) =
+    ap (λ (s : List ℕ). take (l .i) (l .at) ++ s) (sym (given-turn (a .s) (a .leaf) bank (l .used) ps (l .i) k (c .before .before .wide2 .result) h (leaf-is (c .before .before)) (c .seek .ensures .0)))
     ∙ l .inv .2 in (
-      (omega arith, length-set (l .at) (l .i) h ∙ l .inv .0 .1),
-      (length-set (l .used) h (getD (l .used) h 0 + 1) ∙ l .inv .1 .0, λ j. omega (arith, bump-le (l .used) h j, l .inv .1 .1 j)),
-      more-stored (given (a .s) (a .leaf) (zeros mostHeights) (blocksAt (a .bank .now) (a .places .now))) (l .at) (l .i) h rest (omega arith) so (omega arith),
-      sym (used-turn (a .s) (a .leaf) (a .bank .now) (l .used) (a .places .now) (l .i) k (c .before .before .wide2 .result) h (leaf-is (c .before .before)) (c .seek .ensures .0)) ∙ l .inv .3,
+      (omega arith, rw length-set (l .inv .0 .1)),
+      (rw length-set (l .inv .1 .0), λ j. omega (arith, bump-le (l .used) h j, l .inv .1 .1 j)),
+      more-stored (given (a .s) (a .leaf) (zeros mostHeights) (blocksAt bank ps)) (l .at) (l .i) h rest (omega arith) so (omega arith),
+      sym (used-turn (a .s) (a .leaf) bank (l .used) ps (l .i) k (c .before .before .wide2 .result) h (leaf-is (c .before .before)) (c .seek .ensures .0)) ∙ l .inv .3,
     )
 
 add-above : tie.Need-add-above Inv-loop μ-loop
@@ -114,11 +123,13 @@ returns : tie.Need-returns Inv-loop μ-loop
 returns c =
     let l = c .before .before .loop in
     let a = c .before .before .before .before .before .before .args in
-    let e : l .i ≡ length (a .places .now) = omega arith in
-    let w = all-stored (given (a .s) (a .leaf) (zeros mostHeights) (blocksAt (a .bank .now) (a .places .now))) (l .at) (given (a .s) (a .leaf) (l .used) (blocksAt (a .bank .now) (drop (l .i) (a .places .now)))) (l .i) (omega arith)
-    (given-end (a .s) (a .leaf) (a .bank .now) (l .used) (a .places .now) (l .i) (omega arith)) (l .inv .2) in (
+    let bank = a .bank .now in
+    let ps = a .places .now in
+    let e : l .i ≡ length ps = omega arith in
+    let none = given-end (a .s) (a .leaf) bank (l .used) ps (l .i) (omega arith) in
+    let w = all-stored (given (a .s) (a .leaf) (zeros mostHeights) (blocksAt bank ps)) (l .at) (given (a .s) (a .leaf) (l .used) (blocksAt bank (drop (l .i) ps))) (l .i) (omega arith) none (l .inv .2) in (
       rw e at (w .0),
-      ap (λ (u : List ℕ). getD u (a .s .height + 1) 0) (sym (used-end (a .s) (a .leaf) (a .bank .now) (l .used) (a .places .now) (l .i) (omega arith)) ∙ l .inv .3),
+      ap (λ (u : List ℕ). getD u (a .s .height + 1) 0) (sym (used-end (a .s) (a .leaf) bank (l .used) ps (l .i) (omega arith)) ∙ l .inv .3),
     )
 
 pub assign-spec : {M : Type 1} → statement M
