@@ -1,16 +1,15 @@
 -- The bank that is arranged holds the requested block and the others, which can be placed, and what is planned for it is what the paper places.
 -- A caller uses the fields of `Planned`, and the laws of placing on it. Assumes nothing.
-use Prim.Native.Nat.{ℕ, zero, suc, _+_, _*_, _≤_, _<_}
+use Prim.Native.Nat.{ℕ, _+_, _*_, _≤_, _<_}
 use mathlib.Core.Path.{_≡_, refl, sym, ap, ap₂, subst, _∙_}
-use mathlib.Core.Bool.{Bool, true, false, not}
+use mathlib.Core.Bool.{Bool, true, false}
 use mathlib.Core.List.{List, [], _∷_, _++_, append-assoc}
 use native.Mathlib.Nat.{zero-add}
 use native.Mathlib.Omega.{arith}
 use lib.ListN.{length, drop, length-append}
 use lib.Dec.{eqb}
-use borrow.Author.Tests.{eqb-true, eqb-false, eq-eqb, ne-eqb, not-true}
+use borrow.Author.Tests.{eqb-true, eqb-false, ne-eqb, not-true}
 use Rattle.words.specs.Bytes.{splice}
-use Rattle.words.proofs.Splice.{length-splice}
 use Rattle.words.proofs.Tests.{byCases}
 use Rattle.sizes.specs.declared.Sizes.{Sizes}
 use Rattle.sizes.specs.Sizes.{recordLen, slotLen}
@@ -18,10 +17,10 @@ use Rattle.sizes.proofs.Lengths.{leaves-most}
 use Rattle.bags.specs.Bags.{cnt, those, All, AllOf}
 use Rattle.bags.proofs.Bags.{cnt-append}
 use Rattle.slots.specs.Slots.{Block, isUsed, blocksOf, slotsBytes, AllFit, Bytes}
-use Rattle.slots.proofs.Blocks.{blocks-slots, fit-append, length-slots}
+use Rattle.slots.proofs.Blocks.{blocks-slots, fit-append}
 use Rattle.placing.specs.Placing.{sorted}
 use Rattle.placing.specs.Ids.{isId, Placeable}
-use Rattle.placing.specs.Bank.{mostBlocks, Planned}
+use Rattle.placing.specs.Bank.{mostBlocks}
 use Rattle.gathering.specs.declared.Request.{Request}
 use Rattle.gathering.specs.Gathering.{usedTo, found, blockIf, requested, isOther, toPlace, others, Opened}
 use Rattle.gathering.proofs.Those.{those-append, those-all, all-those, cnt-those-le, cnt-those-none, all-append, all-back}

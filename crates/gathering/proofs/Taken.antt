@@ -1,15 +1,14 @@
 -- Slots taken into a bank one behind another. Assumes nothing.
 use Prim.Native.Nat.{ℕ, zero, suc, _+_, _*_, _-_, _≤_, _<_}
-use mathlib.Core.Path.{_≡_, refl, sym, ap, ap₂, subst, _∙_}
-use mathlib.Core.Bool.{Bool, true, false, not, _||_}
+use mathlib.Core.Path.{_≡_, sym, ap, ap₂, subst, _∙_}
+use mathlib.Core.Bool.{Bool, true, false, _||_}
 use mathlib.Core.List.{List, [], _∷_, _++_, append-assoc, append-nil}
-use native.Mathlib.Nat.{add-zero, mul-zero}
+use native.Mathlib.Nat.{add-zero}
 use native.Mathlib.Omega.{arith}
 use native.Mathlib.Numerals.{add-one}
-use lib.ListN.{length, drop, getD, length-append, length-drop}
+use lib.ListN.{length, drop, length-append, length-drop}
 use lib.Seq.{drop-drop, getD-drop}
 use lib.Dec.{eqb}
-use borrow.Author.Tests.{eqb-true, eqb-false, ne-eqb, eq-eqb}
 use Rattle.words.specs.Bytes.{splice}
 use Rattle.words.specs.Numbers.{number, bytesOf}
 use Rattle.words.proofs.Numbers.{number-drop, length-bytesOf}
@@ -19,10 +18,9 @@ use Rattle.sizes.specs.declared.Sizes.{Sizes}
 use Rattle.sizes.specs.Sizes.{recordLen, slotLen, counterLen, slotsLen, leafLen, itemAt, pathLen}
 use Rattle.sizes.proofs.Lengths.{level-fits}
 use Rattle.bags.specs.Bags.{those}
-use Rattle.slots.specs.Slots.{Block, slotBy, isUsed, blockBy, blocksBy, blocksOf, slotBytes, slotsBytes, Fits, AllFit, Bytes}
-use Rattle.slots.proofs.Blocks.{block-fits, blocks-fit, blocks-part, fit-append, length-slots, slots-append, slots-suc}
-use Rattle.gathering.specs.declared.Request.{Request}
-use Rattle.gathering.specs.Gathering.{slotsAt, usedTo, requested, isOther, others}
+use Rattle.slots.specs.Slots.{Block, isUsed, blockBy, blocksBy, blocksOf, slotsBytes, Fits, AllFit, Bytes}
+use Rattle.slots.proofs.Blocks.{block-fits, blocks-fit, blocks-part, fit-append, length-slots, slots-append}
+use Rattle.gathering.specs.Gathering.{slotsAt, usedTo, isOther, others}
 use Rattle.gathering.proofs.Those.{those-append}
 
 -- ---- the requested block

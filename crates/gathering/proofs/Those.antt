@@ -1,13 +1,13 @@
 -- Those of a list that pass a test. Assumes nothing.
 -- for bags
-use Prim.Native.Nat.{ℕ, zero, suc, _+_, _≤_}
-use mathlib.Core.Path.{_≡_, refl, sym, ap, _∙_}
+use Prim.Native.Nat.{_+_, _≤_}
+use mathlib.Core.Path.{_≡_, refl}
 use mathlib.Core.Bool.{Bool, true, false}
 use mathlib.Core.List.{List, [], _∷_, _++_}
 use native.Mathlib.Omega.{arith}
 use lib.ListN.{length}
 use Rattle.words.proofs.Tests.{byCases}
-use Rattle.bags.specs.Bags.{bit, cnt, those, All, AllOf}
+use Rattle.bags.specs.Bags.{cnt, those, All, AllOf}
 
 module _ {A : Type 0} (t : A → Bool) where
   pub those-append : (xs ys : List A) → those t (xs ++ ys) ≡ those t xs ++ those t ys

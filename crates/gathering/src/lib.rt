@@ -10,7 +10,7 @@ ghost use Rattle.words.specs.Bytes.{splice};
 ghost use Rattle.sizes.specs.Sizes.{InRange, mostSlots, recordLen, slotLen, pathLen};
 ghost use Rattle.bags.specs.Bags.{those};
 ghost use Rattle.slots.specs.Slots.{blocksOf, slotsBytes};
-ghost use Rattle.placing.specs.Bank.{mostBlocks, Planned};
+ghost use Rattle.placing.specs.Bank.{Planned};
 ghost use Rattle.gathering.specs.Gathering as spec;
 
 // The requested block: whether there is one to place, which a read of an id that was never written has not; its id and its new leaf.

@@ -1,7 +1,7 @@
 -- A plan that the code made, tied to the definitions of placing: what `fill` lays for a height is what placing puts into the bucket there, or leaves
 -- to the stash. A caller uses `bucket-slots`, `stash-slots` and `Planned`'s own fields. Assumes nothing.
-use Prim.Native.Nat.{ℕ, _+_, _*_, _<_, _≤_}
-use mathlib.Core.Path.{_≡_, refl, sym, ap, ap₂, _∙_}
+use Prim.Native.Nat.{ℕ, _+_, _*_, _≤_}
+use mathlib.Core.Path.{_≡_, sym, ap, ap₂, _∙_}
 use mathlib.Core.List.{List, []}
 use native.Mathlib.Omega.{arith}
 use lib.ListN.{length, take, getD}

@@ -1,5 +1,5 @@
 -- `gathering::arrange` meets its contract: the bank holds the requested block and the others one behind another, and the plan is made of it. Assumes nothing.
-use Prim.Native.Nat.{ℕ, _≤_, _+_, _*_}
+use Prim.Native.Nat.{_≤_, _+_, _*_}
 use mathlib.Core.Path.{_≡_, subst}
 use mathlib.Core.List.{List}
 use native.Mathlib.Omega.{arith}

@@ -1,5 +1,5 @@
 -- `gathering::put_request` meets its contract: id, leaf and record, one behind another, are the block's slot. Assumes nothing.
-use mathlib.Core.Path.{_≡_, refl, sym}
+use mathlib.Core.Path.{refl, sym}
 use Rattle.slots.specs.Slots.{slotsBytes}
 use Rattle.words.proofs.Splice.{splice-nil}
 use Rattle.gathering.proofs.Taken.{request-laid}

@@ -1,5 +1,5 @@
 -- `gathering::take_others` meets its contract: before each turn, taking what is left from slot k on gives the whole. Assumes nothing.
-use Prim.Native.Nat.{ℕ, _≤_, _+_, _*_, _-_}
+use Prim.Native.Nat.{_≤_, _+_, _*_, _-_}
 use mathlib.Core.Path.{_≡_, refl, sym, ap, _∙_}
 use mathlib.Core.List.{List}
 use native.Mathlib.Omega.{arith}

@@ -1,5 +1,5 @@
 -- `placing::bank::copy_slot` meets its contract: what is copied out of the array is what was copied into it, the slot. Assumes nothing.
-use mathlib.Core.Path.{_≡_, ap, _∙_}
+use mathlib.Core.Path.{ap, _∙_}
 use native.Mathlib.Omega.{arith}
 use Rattle.words.specs.Bytes.{splice}
 use Rattle.slots.specs.Slots.{Bytes}

@@ -3,7 +3,7 @@ use Prim.Native.Nat.{ℕ, _≤_, _<_, _-_, _+_, _*_}
 use mathlib.Core.Path.{_≡_, refl, sym, ap, _∙_}
 use mathlib.Core.List.{List, _∷_, _++_}
 use native.Mathlib.Omega.{arith}
-use lib.ListN.{length, take, drop, getD, set, length-set}
+use lib.ListN.{length, take, drop, getD, length-set}
 use Rattle.words.specs.Bytes.{zeros}
 use Rattle.sizes.specs.Sizes.{slotLen}
 use Rattle.placing.specs.Walk.{bump, given, usedIn, mostHeights}

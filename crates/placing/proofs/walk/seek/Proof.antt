@@ -1,6 +1,6 @@
 -- `placing::walk::seek` meets its contract: before each turn the search goes on from h, and both leaves are halved h times. Assumes nothing.
 use Prim.Native.Nat.{_≤_, _-_, _+_, _/_, _^_}
-use mathlib.Core.Path.{_≡_, refl, sym, ap, _∙_}
+use mathlib.Core.Path.{_≡_, refl, sym, _∙_}
 use native.Mathlib.Nat.{div-one}
 use native.Mathlib.Omega.{arith}
 use Rattle.placing.specs.Walk as walk
