@@ -1,3 +1,4 @@
 pub mod Steps
 pub mod Finish
 pub mod Laying
+pub mod Carried
