@@ -11,7 +11,7 @@ use Rattle.sizes.specs.Refusals.{numberOf}
 use Rattle.asks.specs.declared.Asked.{Asked}
 use Rattle.asks.specs.declared.Asked.the-variants as asked
 use Rattle.sizes.specs.declared.Sizes.{Sizes}
-use Rattle.sizes.specs.Sizes.{sizesGood}
+use Rattle.sizes.specs.Sizes.{sizesGood, idsGood, deskLen}
 
 unfoldable pub refusalCode : Refusal → ℤ
 refusalCode r = negℤ (pos (numberOf r))
@@ -29,6 +29,10 @@ askedCode (asked.Refused r) = refusalCode r
 -- a length that sizes give: 0 where a size is out of range
 unfoldable pub lengthBy : (Sizes → ℕ) → Sizes → ℕ
 lengthBy length s = cond (sizesGood s) (length s) 0
+
+-- the desk's: 0 where N is out of range
+unfoldable pub deskLength : ℕ → ℕ → ℕ
+deskLength n room = cond (idsGood n) (deskLen n room) 0
 
 -- a number answered, and what a lent buffer then holds
 pub record Answered (number : ℤ) (buffer : List ℕ) (due-number : ℤ) (due-buffer : List ℕ) : Type 0 where

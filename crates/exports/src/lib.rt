@@ -1,6 +1,7 @@
 // The C interface: numbers and slices only. Every function takes all inputs; a refusal is its number, negative.
 use asks::Asked;
 use desk::Kind;
+use desk::Shape;
 use sizes::Outcome;
 use sizes::Refusal;
 use sizes::Sizes;
@@ -10,11 +11,12 @@ ghost use mir.Syntax.{w32};
 ghost use mir.Val.{SFits};
 ghost use Rattle.desk.specs.declared.Kind.the-variants.{Read, Write};
 ghost use Rattle.asks.specs.Ask.{askOf};
+ghost use Rattle.formats.specs.Format.{formatOf};
 ghost use Rattle.sizes.specs.Sizes.{sized, pathLen, treeLen};
 ghost use Rattle.sha2.specs.Sha256.{sha256};
 ghost use Rattle.chacha20.specs.ChaCha.{cipher};
 ghost use Rattle.tree.specs.Tree.{fetchOf, putOf};
-ghost use Rattle.exports.specs.Codes.{refusalCode, outcomeCode, askedCode, lengthBy, Answered};
+ghost use Rattle.exports.specs.Codes.{refusalCode, outcomeCode, askedCode, lengthBy, deskLength, Answered};
 
 // A refusal's number, negative.
 fn refused(r: Refusal) -> i32
@@ -42,6 +44,23 @@ fn asked(a: Asked) -> i32
 }
 
 #[no_mangle]
+pub extern "C" fn bawnaroy_desk_length(ids: u16, stash: u8) -> usize
+    ensures { λ r. ⌜ r ≡ deskLength ids stash ⌝ }
+{
+    let n = ids as usize;
+    if !desk::ids_good(n) {
+        return 0;
+    }
+    let h = Shape {
+        b: desk::B_LEN,
+        r: Sizes::RECORD,
+        n: n,
+        s: words::wide(stash),
+    };
+    h.len()
+}
+
+#[no_mangle]
 pub extern "C" fn bawnaroy_path_length(height: u8, slots: u8) -> usize
     ensures { λ r. ⌜ r ≡ lengthBy pathLen (sized height slots) ⌝ }
 {
@@ -61,6 +80,21 @@ pub extern "C" fn bawnaroy_tree_length(height: u8, slots: u8) -> usize
         return 0;
     }
     s.tree_len()
+}
+
+#[no_mangle]
+pub extern "C" fn bawnaroy_format(
+    desk: &mut [u8],
+    height: u8,
+    slots: u8,
+    stash: u8,
+    ids: u16,
+    key: &[u8],
+    leaves: &[u16],
+) -> i32
+    ensures { λ r. ⌜ Answered r (now (desk .exit)) (outcomeCode (formatOf (now (desk .entry)) height slots stash ids (now (key .entry)) (now (leaves .entry)) .answer)) (formatOf (now (desk .entry)) height slots stash ids (now (key .entry)) (now (leaves .entry)) .desk) ⌝ }
+{
+    done(formats::format(desk, height, slots, stash, ids, key, leaves))
 }
 
 // A read has no record; none is looked at.
