@@ -92,7 +92,7 @@ module _ (m : Means) (o : Sound m) (d : DemandTwo m (echoing m)) where
       let e : after (echoing m) (small .sizes) one (finishes somePath someBuffer) ≡ two =
       ap (λ (x : FinishResult). afterFinish (small .sizes) one (x .answer) x) works ∙ ap (λ (a : Finished). afterFinish (small .sizes) one a f) answer-is in
       subst (λ (x : State). Reached (echoing m) small (returned small) x) e
-      (reached-more (echoing m) small (returned small) one reached-one (finishes somePath someBuffer) (λ s l k. back))
+      (reached-more (echoing m) small (returned small) one reached-one (finishes somePath someBuffer) (λ a. back))
 
   kept-two : Kept m (echoing m) small (returned small two) two
   kept-two = d small (omega arith) two reached-two

@@ -43,7 +43,7 @@ use Rattle.keeping.proofs.Written.{path-length}
 use Rattle.keeping.proofs.DeskStep.{partsNow, now-changed, now-good, inv-after}
 use Rattle.keeping.proofs.Carry.{inv-kept}
 use Rattle.keeping.proofs.Lists.{no-true}
-use Rattle.promises.specs.Stores.{Start, Request}
+use Rattle.promises.specs.Stores.{Start, Request, Accepted}
 use Rattle.promises.specs.Steps.{State, onlyDesk, tableDone, accepted, afterFinish}
 use Rattle.promises.proofs.One.{finished-refused, finished-done}
 use Rattle.promises.proofs.Three.{accept-record, accept-never, accept-done}
@@ -185,23 +185,23 @@ module _ (m : Means) (o : Sound m) (b : Start) (byte : b .room < 256) (st : Stat
   abbrev result : FinishResult
   result = finishOf m desk path buffer
 
-  pub finish-stands : (statusOf desk ≡ openStatus → length path ≡ pathLen (b .sizes) → length buffer ≡ recordLen → Agrees (viewOf desk) (st .server) path)
+  -- an accepted finish got through
+  pub through-of : Accepted (result .answer) → Through m desk path buffer
+  through-of a = done-through m desk path buffer (finished-done (finishChecked m desk path buffer) _ a)
+
+  pub finish-stands : (Accepted (result .answer) → Agrees (viewOf desk) (st .server) path)
       → Stands m b (afterFinish (b .sizes) st (result .answer) result)
-  finish-stands fair = go (finishChecked m desk path buffer) refl (result .answer) refl
+  finish-stands fair = go (result .answer) refl
     where
-      by : (c : Outcome) → finishChecked m desk path buffer ≡ c → Stands m b (accepted (b .sizes) st (finishBy c m desk path buffer)) → Stands m b (accepted (b .sizes) st result)
-      by c e s = rw e s
+      done-by : Accepted (result .answer) → Stands m b (accepted (b .sizes) st result)
+      done-by a =
+          let d = finished-done (finishChecked m desk path buffer) _ a in
+          subst (λ (c : Outcome). Stands m b (accepted (b .sizes) st (finishBy c m desk path buffer))) (sym d) (done-stands (through-of a) (fair a))
 
-      done-by : finishChecked m desk path buffer ≡ Done → Stands m b (accepted (b .sizes) st (finishBy Done m desk path buffer))
-      done-by e =
-          let t = done-through m desk path buffer e in
-          done-stands t (fair (t .ready .status) (subst (λ (z : Sizes). length path ≡ pathLen z) (v .sizes) (t .ready .path-length)) (t .ready .buffer-length))
-
-      go : (c : Outcome) → finishChecked m desk path buffer ≡ c → (a : Finished) → result .answer ≡ a → Stands m b (afterFinish (b .sizes) st a result)
-      go c e finished.Record h =
-          let d = finished-done (finishChecked m desk path buffer) _ (λ q k. accept-record q (sym h ∙ k)) in by Done d (done-by d)
-      go c e finished.Never h = let d = finished-done (finishChecked m desk path buffer) _ (λ q k. accept-never q (sym h ∙ k)) in by Done d (done-by d)
-      go c e finished.Done h = let d = finished-done (finishChecked m desk path buffer) _ (λ q k. accept-done q (sym h ∙ k)) in by Done d (done-by d)
-      go c e (finished.Refused q) h =
+      go : (a : Finished) → result .answer ≡ a → Stands m b (afterFinish (b .sizes) st a result)
+      go finished.Record h = done-by (λ q k. accept-record q (sym h ∙ k))
+      go finished.Never h = done-by (λ q k. accept-never q (sym h ∙ k))
+      go finished.Done h = done-by (λ q k. accept-done q (sym h ∙ k))
+      go (finished.Refused q) h =
           let d = finished-refused (finishChecked m desk path buffer) (kindAsked desk) _ q h in
           subst (λ (x : Outcome). Stands m b (onlyDesk st (stoppedOr x desk (newDesk m desk path)))) (sym d) (refused-stands q d)

@@ -25,7 +25,7 @@ use Rattle.store.specs.declared.Finished.the-variants as finished
 use Rattle.store.specs.Steps.{answerFor, wasMarked}
 use Rattle.store.specs.Finish.{finishRows, finishChecked, finishedOr, finishOf}
 use Rattle.promises.specs.Stores.{ours, Start, formatFor, Accepted}
-use Rattle.promises.specs.DemandOne.{OnlyStatus, Read as Reads, One, DemandOne}
+use Rattle.promises.specs.DemandOne.{OnlyStatus, ByRows, One, DemandOne}
 use Rattle.promises.proofs.Rows.{reads}
 
 -- ---- answers and outcomes
@@ -69,7 +69,7 @@ one determined r r′ p q = p ∙ sym q
 -- ---- entry by entry
 
 format-read : (b : Start) (lent : List ℕ)
-    → Reads (formatRows lent (b .sizes .height) (b .sizes .slots) (b .room) (b .ids) (b .key) (b .starts)) (formatFor b lent .answer) Refused
+    → ByRows (formatRows lent (b .sizes .height) (b .sizes .slots) (b .room) (b .ids) (b .key) (b .starts)) (formatFor b lent .answer) Refused
 unfolding formatChecked
 format-read b lent =
     reads (formatRows lent (b .sizes .height) (b .sizes .slots) (b .room) (b .ids) (b .key) (b .starts)) (formatFor b lent .answer) Refused
@@ -80,7 +80,7 @@ format-same b lent q h =
     ap (λ (o : Outcome). stoppedOr o lent (formatted (b .sizes .height) (b .sizes .slots) (b .room) (b .ids) (b .key) (b .starts))) h
     ∙ format-spares lent (b .sizes .height) (b .sizes .slots) (b .room) (b .ids) (b .key) (b .starts) h lent
 
-ask-read : (desk : List ℕ) (kind : Kind) (id leaf : ℕ) (rec : List ℕ) → Reads (askRows desk kind id leaf rec) (askOf desk kind id leaf rec .answer) asked.Refused
+ask-read : (desk : List ℕ) (kind : Kind) (id leaf : ℕ) (rec : List ℕ) → ByRows (askRows desk kind id leaf rec) (askOf desk kind id leaf rec .answer) asked.Refused
 unfolding askChecked
 ask-read desk kind id leaf rec =
     reads (askRows desk kind id leaf rec) (askOf desk kind id leaf rec .answer) asked.Refused (askChecked desk kind id leaf rec) refl
@@ -92,7 +92,7 @@ ask-same desk kind id leaf rec q h =
     let e = asked-refused (askChecked desk kind id leaf rec) (positionOf desk id) q h in
     ap (λ (o : Outcome). stoppedOr o desk (opened desk kind id leaf rec)) e ∙ ask-spares desk kind id leaf rec e desk
 
-finish-read : (m : Means) (desk path buffer : List ℕ) → Reads (finishRows m desk path buffer) (finishOf m desk path buffer .answer) finished.Refused
+finish-read : (m : Means) (desk path buffer : List ℕ) → ByRows (finishRows m desk path buffer) (finishOf m desk path buffer .answer) finished.Refused
 unfolding finishChecked
 finish-read m desk path buffer =
     reads (finishRows m desk path buffer) (finishOf m desk path buffer .answer) finished.Refused (finishChecked m desk path buffer) refl
@@ -105,26 +105,26 @@ finish-same m desk path buffer q h =
     let e : finishChecked m desk path buffer ≡ Refused q = finished-refused (finishChecked m desk path buffer) (kindAsked desk) (wasMarked m desk path) q h in
     rw e (only-status q desk, refl, refl)
 
-tree-read : (s : Sizes) (leaf : ℕ) (tree path : List ℕ) → Reads (treeRows s leaf tree path) (treeChecked s leaf tree path) Refused
+tree-read : (s : Sizes) (leaf : ℕ) (tree path : List ℕ) → ByRows (treeRows s leaf tree path) (treeChecked s leaf tree path) Refused
 unfolding treeChecked
 tree-read s leaf tree path = reads (treeRows s leaf tree path) (treeChecked s leaf tree path) Refused (treeChecked s leaf tree path) refl (λ q h. h) (λ q h. h)
 
 pub demand-one : (m : Means) → DemandOne m (ours m)
 demand-one m =
     record {
-      format-reads = format-read;
+      format-by-rows = format-read;
       format-refuses = format-same;
       format-once = λ b lent. one (formatFor b lent);
-      ask-reads = ask-read;
+      ask-by-rows = ask-read;
       ask-refuses = ask-same;
       ask-once = λ desk kind id leaf rec. one (askOf desk kind id leaf rec);
-      finish-reads = finish-read m;
+      finish-by-rows = finish-read m;
       finish-refuses = finish-same m;
       finish-once = λ desk path buffer. one (finishOf m desk path buffer);
-      fetch-reads = tree-read;
+      fetch-by-rows = tree-read;
       fetch-refuses = λ s leaf tree path q h. rw h (refl, refl);
       fetch-once = λ s leaf tree path. one (fetchOf s leaf tree path);
-      put-reads = tree-read;
+      put-by-rows = tree-read;
       put-refuses = λ s leaf tree path q h. rw h (refl, refl);
       put-once = λ s leaf tree path. one (putOf s leaf tree path);
     }

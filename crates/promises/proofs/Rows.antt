@@ -11,7 +11,7 @@ use Rattle.sizes.specs.declared.Refusal.the-variants.{BadDesk}
 use Rattle.sizes.specs.declared.Outcome.{Outcome}
 use Rattle.sizes.specs.declared.Outcome.the-variants.{Done, Refused}
 use Rattle.sizes.specs.Refusals.{firstOf}
-use Rattle.promises.specs.DemandOne.{First, Read}
+use Rattle.promises.specs.DemandOne.{First, ByRows}
 
 pub done-refused : (q : Refusal) → Done ≡ Refused q → ⊥
 done-refused q h = let z : _≡_ {A = ℕ} 0 1 = cc in omega arith
@@ -59,7 +59,7 @@ of-none (row ∷ rows) f = rw (f 0 (omega arith)) (of-none rows (λ i l. f (suc 
 
 -- an answer that is refused exactly as the outcome of the rows is
 pub reads : {A : Type 0} (rows : List (Bool × Refusal)) (answer : A) (refused : Refusal → A) (o : Outcome) → o ≡ firstOf rows
-    → ((q : Refusal) → answer ≡ refused q → o ≡ Refused q) → ((q : Refusal) → o ≡ Refused q → answer ≡ refused q) → Read rows answer refused
+    → ((q : Refusal) → answer ≡ refused q → o ≡ Refused q) → ((q : Refusal) → o ≡ Refused q → answer ≡ refused q) → ByRows rows answer refused
 reads rows answer refused o e f g =
     record {
       first = λ q. ((λ h. first-of rows q (sym e ∙ f q h)), λ k. g q (e ∙ of-first rows q (k .row) (k .inside) (k .applies) (k .none-before)));

@@ -26,10 +26,10 @@ use Rattle.promises.specs.Steps.{State, begin, askFor, afterAsk, afterFi
 use Rattle.promises.specs.Trees.{TreeState, Turn, asking, serving, fetchFor, putIf, served, turn, turns, TreeReached, fetchedBy, DemandTwoTree}
 use Rattle.promises.proofs.One.{finished-done}
 use Rattle.promises.proofs.Three.{accept-record, accept-never, accept-done}
-use Rattle.promises.proofs.Past.{done-through}
+use Rattle.promises.proofs.Past.{Through, done-through}
 use Rattle.promises.proofs.Stands.{Stands, none-some, begin-stands}
 use Rattle.promises.proofs.AskStep.{ask-stands}
-use Rattle.promises.proofs.FinishStep.{asks-of, path-size, finish-stands}
+use Rattle.promises.proofs.FinishStep.{asks-of, path-size, through-of, finish-stands}
 use Rattle.promises.proofs.Kept.{kept}
 use Rattle.promises.proofs.Two.{returned-agrees}
 use Rattle.promises.proofs.TreeHolds.{Holds, fetch-returns, fetch-length, put-holds}
@@ -62,6 +62,10 @@ module _ (m : Means) (o : Sound m) (b : Start) (byte : b .room < 256) where
       abbrev path : List ℕ
       path = fetchFor (b .sizes) ts lent
 
+      by-length : Through m (st .desk) path buffer → Agrees (viewOf (st .desk)) (st .server) path
+      by-length t =
+          fetched-agrees (t .ready .status) lent (subst (λ (z : Sizes). length path ≡ pathLen z) (v .stands .sizes) (t .ready .path-length))
+
       -- an accepted path is put back
       put-after : finishChecked m (st .desk) path buffer ≡ Done
           → Holds (b .sizes) (wrote (b .sizes) (st .leaf-asked) (finishOf m (st .desk) path buffer .path) (st .server))
@@ -69,9 +73,7 @@ module _ (m : Means) (o : Sound m) (b : Start) (byte : b .room < 256) where
       put-after c =
           let t = done-through m (st .desk) path buffer c in
           let s = t .ready .status in
-          let l : length path ≡ pathLen (b .sizes) = subst (λ (z : Sizes). length path ≡ pathLen z) (v .stands .sizes) (t .ready .path-length) in
-          let fair = fetched-agrees s lent l in
-          let n = path-size m o b byte st (v .stands) path buffer t fair in
+          let n = path-size m o b byte st (v .stands) path buffer t (by-length t) in
           let e : finishOf m (st .desk) path buffer .path ≡ newPath m (st .desk) path = ap (λ (x : Outcome). keptOr x path (newPath m (st .desk) path)) c in
           put-holds (b .sizes) (st .leaf-asked) (st .server) (ts .tree) range (leaf-low s) (v .holds) (finishOf m (st .desk) path buffer .path)
           (ap length e ∙ n)
@@ -79,7 +81,7 @@ module _ (m : Means) (o : Sound m) (b : Start) (byte : b .room < 256) where
       served-both : Both (served (ours m) (b .sizes) ts path buffer)
       served-both =
           record {
-            stands = finish-stands m o b byte st (v .stands) path buffer (λ s l k. fetched-agrees s lent l);
+            stands = finish-stands m o b byte st (v .stands) path buffer (λ a. by-length (through-of m o b byte st (v .stands) path buffer a));
             holds = go (finishOf m (st .desk) path buffer .answer) refl;
           }
         where

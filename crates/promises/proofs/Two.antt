@@ -15,7 +15,7 @@ use Rattle.promises.specs.Steps.{State, begin, Event, asks, finishes, af
 use Rattle.promises.specs.DemandTwo.{DemandTwo, DemandTwoReachable}
 use Rattle.promises.proofs.Stands.{Stands, begin-stands}
 use Rattle.promises.proofs.AskStep.{ask-stands}
-use Rattle.promises.proofs.FinishStep.{asks-of, finish-stands}
+use Rattle.promises.proofs.FinishStep.{asks-of, through-of, finish-stands}
 use Rattle.promises.proofs.Kept.{kept}
 
 module _ (m : Means) (o : Sound m) (b : Start) (byte : b .room < 256) where
@@ -29,7 +29,7 @@ module _ (m : Means) (o : Sound m) (b : Start) (byte : b .room < 256) where
     run-stands (asks r ∷ es) st v f = run-stands es (after (ours m) (b .sizes) st (asks r)) (ask-stands m b st v r) (f .1)
     run-stands (finishes path buffer ∷ es) st v f =
         run-stands es (after (ours m) (b .sizes) st (finishes path buffer))
-        (finish-stands m o b byte st v path buffer (λ s l k. agree st v s path (f .0 s l k))) (f .1)
+        (finish-stands m o b byte st v path buffer (λ a. agree st v (through-of m o b byte st v path buffer a .ready .status) path (f .0 a))) (f .1)
 
     pub reached-stands : (st : State) → Reached (ours m) b hands st → Stands m b st
     reached-stands st r =

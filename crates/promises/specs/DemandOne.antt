@@ -36,8 +36,8 @@ pub record First (rows : List (Bool × Refusal)) (q : Refusal) : Type 0 where
   pub applies : getD rows row (false, BadDesk) ≡ (true, q)
   pub none-before : (i : ℕ) → i < row → getD rows i (false, BadDesk) .0 ≡ false
 
--- of rows, how an answer reads: refused with q exactly if q is the first that applies; not refused exactly if none applies
-pub record Read {A : Type 0} (rows : List (Bool × Refusal)) (answer : A) (refused : Refusal → A) : Type 0 where
+-- an answer by rows: refused with q exactly if q is the first that applies; not refused exactly if none applies
+pub record ByRows {A : Type 0} (rows : List (Bool × Refusal)) (answer : A) (refused : Refusal → A) : Type 0 where
   pub first : (q : Refusal) → (answer ≡ refused q) ↔ First rows q
   pub none : ((q : Refusal) → answer ≡ refused q → ⊥) ↔ ((i : ℕ) → i < length rows → getD rows i (false, BadDesk) .0 ≡ false)
 
@@ -50,27 +50,27 @@ One {R} determined = (r r′ : R) → r ≡ determined → r′ ≡ determined �
 
 pub record DemandOne (m : Means) (store : Store) : Type 0 where
   -- format
-  pub format-reads : (b : Start) (lent : List ℕ)
-      → Read (formatRows lent (b .sizes .height) (b .sizes .slots) (b .room) (b .ids) (b .key) (b .starts)) (formatFor b lent .answer) Refused
+  pub format-by-rows : (b : Start) (lent : List ℕ)
+      → ByRows (formatRows lent (b .sizes .height) (b .sizes .slots) (b .room) (b .ids) (b .key) (b .starts)) (formatFor b lent .answer) Refused
   pub format-refuses : (b : Start) (lent : List ℕ) (q : Refusal) → formatFor b lent .answer ≡ Refused q → formatFor b lent .desk ≡ lent
   pub format-once : (b : Start) (lent : List ℕ) → One (formatFor b lent)
   -- ask
-  pub ask-reads : (desk : List ℕ) (kind : Kind) (id leaf : ℕ) (rec : List ℕ)
-      → Read (askRows desk kind id leaf rec) (store .ask desk kind id leaf rec .answer) asked.Refused
+  pub ask-by-rows : (desk : List ℕ) (kind : Kind) (id leaf : ℕ) (rec : List ℕ)
+      → ByRows (askRows desk kind id leaf rec) (store .ask desk kind id leaf rec .answer) asked.Refused
   pub ask-refuses : (desk : List ℕ) (kind : Kind) (id leaf : ℕ) (rec : List ℕ) (q : Refusal)
       → store .ask desk kind id leaf rec .answer ≡ asked.Refused q → store .ask desk kind id leaf rec .desk ≡ desk
   pub ask-once : (desk : List ℕ) (kind : Kind) (id leaf : ℕ) (rec : List ℕ) → One (store .ask desk kind id leaf rec)
   -- finish
-  pub finish-reads : (desk path buffer : List ℕ) → Read (finishRows m desk path buffer) (store .finish desk path buffer .answer) finished.Refused
+  pub finish-by-rows : (desk path buffer : List ℕ) → ByRows (finishRows m desk path buffer) (store .finish desk path buffer .answer) finished.Refused
   pub finish-refuses : (desk path buffer : List ℕ) (q : Refusal) → store .finish desk path buffer .answer ≡ finished.Refused q
       → OnlyStatus q desk (store .finish desk path buffer .desk) × (store .finish desk path buffer .path ≡ path) × (store .finish desk path buffer .buffer ≡ buffer)
   pub finish-once : (desk path buffer : List ℕ) → One (store .finish desk path buffer)
   -- fetch and put
-  pub fetch-reads : (s : Sizes) (leaf : ℕ) (tree path : List ℕ) → Read (treeRows s leaf tree path) (fetchOf s leaf tree path .answer) Refused
+  pub fetch-by-rows : (s : Sizes) (leaf : ℕ) (tree path : List ℕ) → ByRows (treeRows s leaf tree path) (fetchOf s leaf tree path .answer) Refused
   pub fetch-refuses : (s : Sizes) (leaf : ℕ) (tree path : List ℕ) (q : Refusal) → fetchOf s leaf tree path .answer ≡ Refused q
       → (fetchOf s leaf tree path .tree ≡ tree) × (fetchOf s leaf tree path .path ≡ path)
   pub fetch-once : (s : Sizes) (leaf : ℕ) (tree path : List ℕ) → One (fetchOf s leaf tree path)
-  pub put-reads : (s : Sizes) (leaf : ℕ) (tree path : List ℕ) → Read (treeRows s leaf tree path) (putOf s leaf tree path .answer) Refused
+  pub put-by-rows : (s : Sizes) (leaf : ℕ) (tree path : List ℕ) → ByRows (treeRows s leaf tree path) (putOf s leaf tree path .answer) Refused
   pub put-refuses : (s : Sizes) (leaf : ℕ) (tree path : List ℕ) (q : Refusal) → putOf s leaf tree path .answer ≡ Refused q
       → (putOf s leaf tree path .tree ≡ tree) × (putOf s leaf tree path .path ≡ path)
   pub put-once : (s : Sizes) (leaf : ℕ) (tree path : List ℕ) → One (putOf s leaf tree path)

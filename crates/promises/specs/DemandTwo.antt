@@ -82,7 +82,7 @@ pub record Writes (m : Means) (desk path new : List ℕ) (k : ℕ) : Type 0 wher
 
 pub record Kept (m : Means) (store : Store) (b : Start) (hands : List ℕ → Type 0) (st : State) : Type 0 where
   pub good : goodDesk (st .desk) ≡ true
-  -- a desk is open exactly while a request is, and then body (c) is that request
+  -- an open desk has a request, and body (c) holds it; a ready desk has none
   pub opens : statusOf (st .desk) ≡ openStatus → (r : Request) × (st .open-request ≡ some r) × Holds (st .desk) r
   pub is-ready : statusOf (st .desk) ≡ readyStatus → st .open-request ≡ none
   -- at a ready desk an ask in range is accepted and answers the leaf last drawn for the id; no ask is answered by another leaf

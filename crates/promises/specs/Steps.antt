@@ -4,13 +4,10 @@ use mathlib.Core.Path.{_≡_}
 use mathlib.Core.Bool.{cond}
 use mathlib.Core.Option.{Option, none, some}
 use mathlib.Core.List.{List, [], _∷_}
-use lib.ListN.{length, getD}
+use lib.ListN.{getD}
 use lib.Dec.{eqb}
 use Rattle.sizes.specs.declared.Sizes.{Sizes}
 use Rattle.sizes.specs.declared.Outcome.the-variants.{Done}
-use Rattle.sizes.specs.Sizes.{recordLen, pathLen}
-use Rattle.desk.specs.Readers.{statusOf}
-use Rattle.desk.specs.Status.{openStatus}
 use Rattle.opening.specs.Opening.{viewOf}
 use Rattle.asks.specs.declared.Asked.{Asked}
 use Rattle.asks.specs.declared.Asked.the-variants as asked
@@ -20,7 +17,7 @@ use Rattle.store.specs.declared.Finished.the-variants as finished
 use Rattle.store.specs.Finish.{FinishResult}
 use Rattle.keeping.specs.Server.{Server, Returns, Agrees, wrote}
 use Rattle.keeping.specs.Table.{Table, plainTable}
-use Rattle.promises.specs.Stores.{Store, Start, formatFor, Request}
+use Rattle.promises.specs.Stores.{Store, Start, formatFor, Request, Accepted}
 
 -- ---- states: the desk, and the book: what the server was last given, what a plain table holds, the leaf last drawn for each id, the request that
 -- is open, and the leaf that was asked for
@@ -57,7 +54,8 @@ askFor store st r = store .ask (st .desk) (r .kind) (r .id) (r .leaf) (r .conten
 abbrev pub finishFor : Store → State → List ℕ → List ℕ → FinishResult
 finishFor store st path buffer = store .finish (st .desk) path buffer
 
--- the state with another desk, all else as it was: what a refusal leaves
+-- the state with another desk, all else as it was: what a refusal leaves. A write that ends as Worn or Full is not in the table, and its path is not
+-- written: the store has stopped
 abbrev pub onlyDesk : State → List ℕ → State
 onlyDesk st desk =
     record {
@@ -125,14 +123,14 @@ returned b st path = Returns (b .sizes) (st .server) (st .leaf-asked) path
 abbrev pub agreeing : Hands
 agreeing st path = Agrees (viewOf (st .desk)) (st .server) path
 
--- a finish looks at its path only at an open desk, and where both lengths are right: any other path may be anything
-abbrev pub Fair : Hands → Sizes → State → Event → Type 0
-Fair hands s st (asks r) = Unit {0}
-Fair hands s st (finishes path buffer) = statusOf (st .desk) ≡ openStatus → length path ≡ pathLen s → length buffer ≡ recordLen → hands st path
+-- each path that finish accepts is such a one. Of a path that it refuses nothing is asked: that changes at most the status
+abbrev pub Fair : Hands → Store → State → Event → Type 0
+Fair hands store st (asks r) = Unit {0}
+Fair hands store st (finishes path buffer) = Accepted (finishFor store st path buffer .answer) → hands st path
 
 abbrev pub AllFair : Hands → Store → Sizes → State → List Event → Type 0
 AllFair hands store s st [] = Unit {0}
-AllFair hands store s st (e ∷ es) = Fair hands s st e × AllFair hands store s (after store s st e) es
+AllFair hands store s st (e ∷ es) = Fair hands store st e × AllFair hands store s (after store s st e) es
 
 -- ---- the states that a formatted desk gets to, over any asks and finishes, refused or not
 
