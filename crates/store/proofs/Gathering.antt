@@ -18,7 +18,6 @@ use Rattle.placing.specs.Walk.{pick}
 use Rattle.placing.specs.Bank.{blocksAt, Planned}
 use Rattle.placing.proofs.Planned.{bucket-fits}
 use Rattle.placing.proofs.Laid.{fit-at, pick-fit}
-use Rattle.gathering.specs.declared.Request.{Request}
 use Rattle.gathering.specs.Gathering as gathering
 use Rattle.gathering.proofs.Found.{used-found, place-is}
 use Rattle.opening.specs.Opening.{viewOf, stashSlots, foundAt, foundTo, gathered}
@@ -27,6 +26,7 @@ use Rattle.opening.proofs.Gathered.{opened-found, found-first}
 use Rattle.settling.specs.Settling.{settled}
 use Rattle.store.specs.Steps.{markFor, carried, under, wasMarked, recordFound, toPlace, newStash, newPath, newRoot, newDesk}
 use Rattle.store.specs.Carried.{isThere, carriedOn}
+use Rattle.store.specs.Ready.{requestOf, carriedOf}
 use Rattle.store.specs.Laying.{Writable, Placed, Accepted}
 
 -- ---- what is found in the working copy and in the stash
@@ -52,16 +52,10 @@ block-is Read false id leaf found asked = refl
 block-is Write marked id leaf found asked = refl
 
 module _ (desk path : List ℕ) where
-  abbrev pub requestOf : Request
-  requestOf = record { there = isThere (kindAsked desk) (wasMarked real desk path); id = idAsked desk; leaf = newLeaf desk }
-
-  abbrev pub carriedOf : List ℕ
-  carriedOf = carriedOn (kindAsked desk) (wasMarked real desk path) (recordFound real desk path) (recordAsked desk)
-
-  pub place-same : gathering.toPlace requestOf carriedOf (gathered real desk path) ≡ toPlace real desk path
+  pub place-same : gathering.toPlace (requestOf desk) (carriedOf desk path) (gathered real desk path) ≡ toPlace real desk path
   unfolding toPlace
   place-same =
-      place-is requestOf carriedOf (gathered real desk path)
+      place-is (requestOf desk) (carriedOf desk path) (gathered real desk path)
       ∙ ap (λ (bs : List Block). sorted (bs ++ those (gathering.isOther (idAsked desk)) (gathered real desk path)))
       (block-is (kindAsked desk) (wasMarked real desk path) (idAsked desk) (newLeaf desk) (recordFound real desk path) (recordAsked desk))
 

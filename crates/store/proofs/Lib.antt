@@ -1,2 +1,4 @@
 pub mod Laying
 pub mod Gathering
+pub mod Carried
+pub mod Ready

@@ -16,6 +16,9 @@ ghost use Rattle.placing.specs.Walk.{pick};
 ghost use Rattle.store.specs.Finish.{entryRows};
 ghost use Rattle.store.specs.Laying.{Laid, Writable, Accepted};
 
+mod request;
+mod stash;
+
 // What a finish answers. A record goes to the lent buffer.
 pub enum Finished {
     Record,
