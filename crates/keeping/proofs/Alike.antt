@@ -7,7 +7,6 @@ use native.Mathlib.Omega.{arith}
 use lib.ListN.{length, take, drop, getD}
 use lib.Seq.{length-take-le, take-at, drop-at, take-take, getD-take}
 use lib.Dec.{eqb}
-use borrow.Author.Tests.{lt-ltb, le-ltb}
 use Rattle.words.specs.Bytes.{part}
 use Rattle.words.specs.Numbers.{number}
 use Rattle.words.proofs.Splice.{length-part, length-zeros, part-part}
@@ -16,6 +15,7 @@ use Rattle.words.proofs.Tests.{byCases, below-or}
 use Rattle.sizes.specs.declared.Sizes.{Sizes}
 use Rattle.sizes.specs.Sizes.{counterLen, digestLen, slotsLen, leafLen, innerLen, itemLen, flagAt, digestAt}
 use Rattle.sizes.proofs.Lengths.{inner-item}
+use Rattle.items.proofs.Digest.{masked-inner, masked-leaf}
 use Rattle.items.specs.Items.{Means, counterOf, flagOf, digestOf, digestRead, masked, nonceOf, blocksIn}
 use Rattle.bags.specs.Bags.{those}
 use Rattle.slots.specs.Slots.{isUsed, blocksOf}
@@ -39,8 +39,7 @@ read-digest s a side f = rw f
 
 module _ (s : Sizes) (k : ℕ) (a b : List ℕ) (inner : k < s .height) (la : length a ≡ innerLen s) (lb : length b ≡ innerLen s) (e : masked s k a ≡ masked s k b) where
   whole : take (digestAt s 0) a ++ (digestRead s a 0 ++ digestRead s a 1) ≡ take (digestAt s 0) b ++ (digestRead s b 0 ++ digestRead s b 1)
-  unfolding masked
-  whole = rw (lt-ltb k (s .height) inner) at e
+  whole = sym (masked-inner s k a inner) ∙ e ∙ masked-inner s k b inner
 
   short : (x : List ℕ) → length x ≡ innerLen s → length (take (digestAt s 0) x) ≡ digestAt s 0
   short x l = length-take-le (digestAt s 0) x (omega arith)
@@ -79,8 +78,7 @@ module _ (s : Sizes) (k : ℕ) (a b : List ℕ) (inner : k < s .height) (la : le
       }
 
 leaf-alike : (s : Sizes) (k : ℕ) (a b : List ℕ) → s .height ≤ k → masked s k a ≡ masked s k b → Alike s a b
-unfolding masked
-leaf-alike s k a b h e = alike-same s a b (rw (le-ltb k (s .height) h) at e)
+leaf-alike s k a b h e = alike-same s a b (sym (masked-leaf s k a h) ∙ e ∙ masked-leaf s k b h)
 
 pub masked-alike : (s : Sizes) (k : ℕ) (a b : List ℕ) → length a ≡ itemLen s k → length b ≡ itemLen s k → masked s k a ≡ masked s k b → Alike s a b
 masked-alike s k a b la lb e =

@@ -1,35 +1,24 @@
 -- From the invariant's bag: every id ever written stands in exactly one place, and there are as many blocks as ids ever written. Assumes nothing.
 use Prim.Native.Nat.{ℕ, zero, suc, _+_, _<_, _≤_}
 use mathlib.Core.Path.{_≡_, refl, sym, ap, ap₂, _∙_}
-use mathlib.Core.Bool.{Bool, true, false, not, _&&_}
+use mathlib.Core.Bool.{Bool, false, not, _&&_}
 use mathlib.Core.List.{List, [], _∷_}
 use native.Mathlib.Omega.{arith}
 use mathlib.Core.Option.{Option, none, some}
 use lib.ListN.{length, length-append}
 use lib.Dec.{eqb}
 use borrow.Author.Tests.{eqb-true, eq-eqb}
-use Rattle.words.specs.Bytes.{same}
-use Rattle.words.proofs.Tests.{byCases, and-left, and-right, same-eq, same-refl}
+use Rattle.words.proofs.Tests.{byCases, same-refl}
 use Rattle.bags.specs.Bags.{cnt, those, Same}
 use Rattle.bags.proofs.Bags.{same-length}
 use Rattle.slots.specs.Slots.{Block}
 use Rattle.desk.specs.Readers.{positionOf}
 use Rattle.opening.specs.Opening.{isId}
+use Rattle.placing.proofs.Rising.{sameBlock, same-block}
 use Rattle.keeping.specs.Table.{Table, isHeld, isSome, everWritten, blockOf, placeOf, tableBlocks}
 use Rattle.keeping.proofs.Lists.{no-true, those-none}
 use Rattle.keeping.proofs.Held.{none-of, few, there-is}
 use Rattle.keeping.proofs.Plain.{some-inj}
-
-abbrev sameBlock : Block → Block → Bool
-sameBlock b c = eqb (b .id) (c .id) && (eqb (b .leaf) (c .leaf) && same (b .bytes) (c .bytes))
-
-same-is : (b c : Block) → sameBlock b c ≡ true → b ≡ c
-same-is b c e =
-    let p = eqb-true (b .id) (c .id) (and-left (eqb (b .id) (c .id)) _ e) in
-    let f : (eqb (b .leaf) (c .leaf) && same (b .bytes) (c .bytes)) ≡ true = and-right (eqb (b .id) (c .id)) _ e in
-    let q = eqb-true (b .leaf) (c .leaf) (and-left (eqb (b .leaf) (c .leaf)) _ f) in
-    let r = same-eq (b .bytes) (c .bytes) (and-right (eqb (b .leaf) (c .leaf)) _ f) in
-    λ i. record { id = p i; leaf = q i; bytes = r i }
 
 those-one : (t : Block → Bool) (b : Block) (xs : List Block) → cnt t xs ≡ 1 → cnt (λ c. t c && not (sameBlock c b)) xs ≡ 0 → those t xs ≡ b ∷ []
 unfolding those
@@ -38,7 +27,7 @@ those-one t b (x ∷ xs) h z =
     byCases (t x)
     (λ e.
     byCases (sameBlock x b)
-    (λ f. rw e (ap₂ (λ (c : Block) (l : List Block). c ∷ l) (same-is x b f) (those-none t xs (omega (arith, rw e at h)))))
+    (λ f. rw e (ap₂ (λ (c : Block) (l : List Block). c ∷ l) (same-block x b f) (those-none t xs (omega (arith, rw e at h)))))
     (λ f. absurd (omega (arith, rw (e, f) at z))))
     (λ e. rw e (those-one t b xs (omega (arith, rw e at h)) (omega (arith, rw e at z))))
 

@@ -21,6 +21,7 @@ use Rattle.desk.specs.Readers.{sizesOf, heightOf, kindAsked}
 use Rattle.items.specs.Items.{Means}
 use Rattle.items.specs.Way.{reachable}
 use Rattle.opening.specs.Opening.{viewOf, isWorn, lastCounter, genuine, worn, Genuine}
+use Rattle.opening.proofs.Genuine.{genuine-checks, checks-genuine}
 use Rattle.store.specs.declared.Finished.{Finished}
 use Rattle.store.specs.declared.Finished.the-variants as finished
 use Rattle.store.specs.Steps.{answerFor, wasMarked, newStash}
@@ -29,7 +30,6 @@ use Rattle.keeping.proofs.Lists.{no-true, both}
 use Rattle.promises.specs.Stores.{ours, Accepted}
 use Rattle.promises.specs.DemandTwo.{Ready, WornOut, Exactly}
 use Rattle.promises.proofs.One.{answer-accepted, finished-refused}
-use Rattle.promises.proofs.Forged.{genuine-checks, checks-genuine}
 
 -- for words
 fails-at : (p : ℕ → Bool) (n : ℕ) → all n p ≡ false → (i : ℕ) × (i < n) × (p i ≡ false)
