@@ -116,7 +116,7 @@ pub fn row(
     record: &[u8],
 ) -> usize
     requires { ⌜ (mostRow ≤ length (now out)) × (length (now «record») ≡ recordLen) ⌝ }
-    ensures { λ r. ⌜ Wrote (now (out .entry)) 0 (rowOf n kind id leaf answer (now («record» .entry))) (now (out .exit)) r ⌝ }
+    ensures { λ r. ⌜ Wrote (now (out .entry)) 0 (rowOf n kind id leaf answer (now («record» .entry))) (now (out .exit)) r × (r ≤ mostRow) ⌝ }
 {
     let mut at = put_request(out, n, kind, id);
     at = put_leaf(out, at, leaf);
@@ -142,7 +142,7 @@ pub fn bad_line(out: &mut [u8]) -> usize
 // The line for a format that was refused.
 pub fn format_row(out: &mut [u8], r: Refusal) -> usize
     requires { ⌜ mostRow ≤ length (now out) ⌝ }
-    ensures { λ n. ⌜ Wrote (now (out .entry)) 0 (formatRow r) (now (out .exit)) n ⌝ }
+    ensures { λ n. ⌜ Wrote (now (out .entry)) 0 (formatRow r) (now (out .exit)) n × (n ≤ mostRow) ⌝ }
 {
     let mut at = put(out, 0, b"0 format - - ");
     at = put_refused(out, at, r);

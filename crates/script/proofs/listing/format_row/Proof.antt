@@ -30,7 +30,7 @@ returns : tie.Need-returns
 returns c =
     let r = refusedText (c .before .before .before .before .before .before .before .before .before .before .before .before .before .before .before .args .r) in
     let w = andThen formatWord r (c .before .before .before .before .before .before .before .before .before .before .before .put .ensures) (c .before .before .before .before .before .before .before .put-refused .ensures .0) (omega arith) in
-    andThen (formatWord ++ r) (lineFeed ∷ []) w (c .before .before .put2 .ensures) (omega arith)
+    (andThen (formatWord ++ r) (lineFeed ∷ []) w (c .before .before .put2 .ensures) (omega arith), omega arith)
 
 pub format-row-spec : {M : Type 1} → statement M
 format-row-spec =

@@ -42,7 +42,7 @@ returns c =
     let x = andThen q l (c .before .before .before .before .before .before .before .before .before .before .before .before .before .before .before .before .before .before .before .before .put-request .ensures .0) (c .before .before .before .before .before .before .before .before .before .before .before .before .before .before .before .before .put-leaf .ensures .0) (omega arith) in
     let y = andThen (q ++ l) (space ∷ []) x (c .before .before .before .before .before .before .before .before .before .before .before .put .ensures) (omega arith) in
     let z = andThen (q ++ l ++ (space ∷ [])) w y (c .before .before .before .before .before .before .before .put-answer .ensures .0) (omega arith) in
-    andThen (q ++ l ++ (space ∷ []) ++ w) (lineFeed ∷ []) z (c .before .before .put2 .ensures) (omega arith)
+    (andThen (q ++ l ++ (space ∷ []) ++ w) (lineFeed ∷ []) z (c .before .before .put2 .ensures) (omega arith), omega arith)
 
 pub row-spec : {M : Type 1} → statement M
 row-spec =
