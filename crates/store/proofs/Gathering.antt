@@ -10,6 +10,7 @@ use Rattle.slots.specs.Slots.{Block, isUsed, blocksOf, Bytes}
 use Rattle.desk.specs.declared.Kind.{Kind}
 use Rattle.desk.specs.declared.Kind.the-variants.{Read, Write}
 use Rattle.desk.specs.Readers.{heightOf, slotsIn, sizesOf, kindAsked, idAsked, newLeaf, recordAsked, leafAsked, stashCount, stashOf}
+use Rattle.items.specs.declared.View.{View}
 use Rattle.items.specs.Way.{Reached}
 use Rattle.items.specs.Real.{real}
 use Rattle.items.proofs.Fields.{slots-of}
@@ -92,3 +93,16 @@ module _ (desk path : List ℕ) where
         a .desk-is _ (plan-placed (sizesOf desk) (leafAsked desk) (toPlace real desk path) all over bank places at p)
         ∙ ap (λ (bs : List Block). settled (idAsked desk) (newLeaf desk) (markFor (kindAsked desk) (wasMarked real desk path)) bs (newRoot real desk path) desk) (p .stash)
         ∙ desk-new
+
+  -- with what the code reads
+  pub followed : (v : View) (id leaf mark : ℕ) → v ≡ viewOf desk → id ≡ idAsked desk → leaf ≡ newLeaf desk → mark ≡ markFor (kindAsked desk) (wasMarked real desk path)
+      → (all over : ℕ) (bank places at after changed : List ℕ) → Planned (v .sizes) (v .leaf) (toPlace real desk path) all over bank places at
+      → Accepted v path desk after changed id leaf mark (take all at) (blocksAt bank (take all places)) → (after ≡ newPath real desk path) × (changed ≡ newDesk real desk path)
+  followed v id leaf mark e i l m all over bank places at after changed p a =
+      let bs : List Block = blocksAt bank (take all places) in
+      let p₁ = subst (λ (x : View). Planned (x .sizes) (x .leaf) (toPlace real desk path) all over bank places at) e p in
+      let a₁ = subst (λ (x : View). Accepted x path desk after changed id leaf mark (take all at) bs) e a in
+      let a₂ = subst (λ (x : ℕ). Accepted (viewOf desk) path desk after changed x leaf mark (take all at) bs) i a₁ in
+      let a₃ = subst (λ (x : ℕ). Accepted (viewOf desk) path desk after changed (idAsked desk) x mark (take all at) bs) l a₂ in
+      let a₄ = subst (λ (x : ℕ). Accepted (viewOf desk) path desk after changed (idAsked desk) (newLeaf desk) x (take all at) bs) m a₃ in
+      (path-accepted all over bank places at after changed p₁ a₄, desk-accepted all over bank places at after changed p₁ a₄)

@@ -8,7 +8,7 @@ use lib.ListN.{length}
 use Rattle.words.specs.Bytes.{part}
 use Rattle.words.proofs.Splice.{length-part}
 use Rattle.sizes.specs.declared.Sizes.{Sizes}
-use Rattle.sizes.specs.Sizes.{recordLen, requestHead}
+use Rattle.sizes.specs.Sizes.{recordLen, requestHead, pathLen}
 use Rattle.sizes.proofs.Lengths.{path-most}
 use Rattle.slots.specs.Slots.{Block}
 use Rattle.desk.specs.declared.Kind.{Kind}
@@ -16,6 +16,7 @@ use Rattle.desk.specs.declared.Kind.the-variants.{Read, Write}
 use Rattle.desk.specs.Layout.{cAt, shapeOf, idsOf}
 use Rattle.desk.specs.Readers.{sizesOf, kindAsked, recordAsked, leafAsked, stashCount}
 use Rattle.items.specs.declared.View.{View}
+use Rattle.items.specs.Way.{Reached}
 use Rattle.items.specs.Real.{real}
 use Rattle.items.proofs.Sound.{real-sound}
 use Rattle.placing.specs.Ids.{Placeable}
@@ -23,6 +24,7 @@ use Rattle.placing.specs.Bank.{Planned}
 use Rattle.gathering.specs.declared.Request.{Request}
 use Rattle.gathering.specs.Gathering as gathering
 use Rattle.opening.specs.Opening.{viewOf, stashSlots, gathered}
+use Rattle.opening.specs.Walk.{Unsealed}
 use Rattle.opening.proofs.Genuine.{genuine-checks}
 use Rattle.opening.proofs.Open.{stash-room}
 use Rattle.opening.proofs.Gathered.{gathered-placeable, record-length}
@@ -37,6 +39,15 @@ carried-long Read false found asked f a = a
 carried-long Write marked found asked f a = a
 
 module _ (desk path : List ℕ) (v : View) (n : ℕ) (w : List ℕ) (y : Ready desk path v n w) where
+  pub view-reached : Reached v path n
+  view-reached = subst (λ (x : View). Reached x path n) (sym (y .view)) (y .reached)
+
+  pub view-unsealed : Unsealed v path n w
+  view-unsealed = subst (λ (x : View). Unsealed x path n w) (sym (y .view)) (y .unsealed)
+
+  pub view-size : length path ≡ pathLen (v .sizes)
+  view-size = subst (λ (x : View). length path ≡ pathLen (x .sizes)) (sym (y .view)) (y .size)
+
   pub record-long : length (carriedOf desk path) ≡ recordLen
   record-long =
       let o = y .good in

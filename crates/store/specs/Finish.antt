@@ -36,6 +36,10 @@ pathRows m desk path =
     ∷ (ltb (roomOf desk) (length (newStash m desk path)), Full)
     ∷ []
 
+-- the last of them, which is known once the blocks are placed
+abbrev pub fullRows : Means → List ℕ → List ℕ → List (Bool × Refusal)
+fullRows m desk path = (ltb (roomOf desk) (length (newStash m desk path)), Full) ∷ []
+
 abbrev pub finishRows : Means → List ℕ → List ℕ → List ℕ → List (Bool × Refusal)
 finishRows m desk path buffer = entryRows desk path buffer ++ pathRows m desk path
 
@@ -51,6 +55,9 @@ pub record FinishResult : Type 0 where
   pub desk : List ℕ
   pub path : List ℕ
   pub buffer : List ℕ
+
+abbrev pub result : Finished → List ℕ → List ℕ → List ℕ → FinishResult
+result a d p b = record { answer = a; desk = d; path = p; buffer = b }
 
 -- the result of a finish whose checks came out as given
 abbrev pub finishBy : Outcome → Means → List ℕ → List ℕ → List ℕ → FinishResult

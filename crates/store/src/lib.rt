@@ -1,4 +1,5 @@
 // Finish: the open request is answered over the path that the server handed back. Nothing lent is written before the last refusal is behind.
+use desk::Kind;
 use items::View;
 use sizes::Outcome;
 use sizes::Refusal;
@@ -9,13 +10,18 @@ ghost use lib.ListN.{length};
 ghost use Rattle.sizes.specs.Sizes.{leaves, pathLen};
 ghost use Rattle.sizes.specs.Refusals.{firstOf};
 ghost use Rattle.desk.specs.Layout.{Whole, idsOf, roomOf};
+ghost use Rattle.desk.specs.Readers.{kindAsked, idAsked, isMarked};
 ghost use Rattle.items.specs.Items.{Carries};
 ghost use Rattle.items.specs.Way.{Reached};
-ghost use Rattle.placing.specs.Bank.{Inside, blocksAt};
+ghost use Rattle.items.specs.Real.{real};
+ghost use Rattle.placing.specs.Bank.{mostBlocks, Inside, blocksAt, Planned};
 ghost use Rattle.placing.specs.Walk.{pick};
 ghost use Rattle.store.specs.Finish.{entryRows};
+ghost use Rattle.store.specs.Steps.{toPlace, newPath, newDesk};
+ghost use Rattle.store.specs.Ready.{Ready};
 ghost use Rattle.store.specs.Laying.{Laid, Writable, Accepted};
 
+mod plan;
 mod request;
 mod stash;
 
@@ -93,4 +99,44 @@ fn accept(
     let root = writing::write_path(path, w, v, n);
     let h = (s.height + 1) as u8;
     settling::settle(desk, id, leaf, mark, over, h, at, places, bank, &root);
+}
+
+// Steps 4 and 6 by a plan: path and desk are then the new ones.
+fn follow(
+    desk: &mut [u8],
+    path: &mut [u8],
+    w: &mut [u8],
+    v: View,
+    n: usize,
+    kind: Kind,
+    marked: bool,
+    all: usize,
+    over: usize,
+    bank: &[u8],
+    places: &[u16],
+    at: &[u8],
+)
+    requires { ⌜ Ready (now desk) (now path) v n (now w) ⌝ }
+    requires { ⌜ (kind ≡ kindAsked (now desk)) × (marked ≡ isMarked (now desk) (idAsked (now desk))) ⌝ }
+    requires { ⌜ (over ≤ roomOf (now desk)) × ((length (now places) ≡ mostBlocks) × (length (now at) ≡ mostBlocks)) ⌝ }
+    requires { ⌜ Planned (v .sizes) (v .leaf) (toPlace real (now desk) (now path)) all over (now bank) (now places) (now at) ⌝ }
+    ensures { λ _. ⌜ (now (path .exit) ≡ newPath real (now (desk .entry)) (now (path .entry))) × (now (desk .exit) ≡ newDesk real (now (desk .entry)) (now (path .entry))) ⌝ }
+{
+    let id = opening::id_asked(desk);
+    let leaf = request::new_leaf(desk);
+    let mark = request::mark_for(kind, marked);
+    accept(
+        desk,
+        path,
+        w,
+        v,
+        n,
+        id,
+        leaf,
+        mark,
+        over,
+        &at[..all],
+        &places[..all],
+        bank,
+    );
 }

@@ -1,0 +1,99 @@
+// Steps 3 and 5: the plan for the blocks of path and stash, the requested one under its new leaf with the record that it carries on.
+use crate::request;
+use crate::stash;
+use desk::Kind;
+use gathering::Request;
+use items::View;
+use placing::Counts;
+use sizes::Sizes;
+ghost use mathlib.Core.Path.{_≡_};
+ghost use Prim.Native.Nat.{_*_};
+ghost use lib.ListN.{length};
+ghost use Rattle.sizes.specs.Sizes.{slotLen, recordLen};
+ghost use Rattle.desk.specs.Readers.{kindAsked, idAsked, isMarked};
+ghost use Rattle.items.specs.Real.{real};
+ghost use Rattle.placing.specs.Bank.{mostBlocks, Planned};
+ghost use Rattle.store.specs.Steps.{toPlace};
+ghost use Rattle.store.specs.Carried.{carriedOn};
+ghost use Rattle.store.specs.Ready.{Ready};
+ghost use Rattle.store.specs.Ready as ready;
+
+// The requested block.
+fn request_of(
+    desk: &[u8],
+    path: &[u8],
+    w: &[u8],
+    v: View,
+    n: usize,
+    kind: Kind,
+    marked: bool,
+) -> Request
+    requires { ⌜ Ready (now desk) (now path) v n (now w) ⌝ }
+    requires { ⌜ (kind ≡ kindAsked (now desk)) × (marked ≡ isMarked (now desk) (idAsked (now desk))) ⌝ }
+    ensures { λ r. ⌜ r ≡ ready.requestOf (now (desk .entry)) ⌝ }
+{
+    Request {
+        there: request::is_there(kind, marked),
+        id: opening::id_asked(desk) as u16,
+        leaf: request::new_leaf(desk),
+    }
+}
+
+// The plan; `path` is the path that was opened into `w`.
+pub fn plan(
+    bank: &mut [u8],
+    places: &mut [u16],
+    at: &mut [u8],
+    desk: &[u8],
+    path: &[u8],
+    w: &[u8],
+    v: View,
+    n: usize,
+    kind: Kind,
+    marked: bool,
+    carried: &[u8],
+) -> Counts
+    requires { ⌜ Ready (now desk) (now path) v n (now w) ⌝ }
+    requires { ⌜ (kind ≡ kindAsked (now desk)) × (marked ≡ isMarked (now desk) (idAsked (now desk))) ⌝ }
+    requires { ⌜ (length (now bank) ≡ slotLen * mostBlocks) × ((length (now places) ≡ mostBlocks) × (length (now at) ≡ mostBlocks)) ⌝ }
+    requires { ⌜ now carried ≡ ready.carriedOf (now desk) (now path) ⌝ }
+    ensures { λ r. ⌜ Planned (v .sizes) (v .leaf) (toPlace real (now (desk .entry)) (now (path .entry))) (r .all) (r .over) (now (bank .exit)) (now (places .exit)) (now (at .exit)) ⌝ }
+{
+    let r = request_of(desk, path, w, v, n, kind, marked);
+    let ids = desk::shape_of(desk).n;
+    let count = stash::count(desk);
+    let slots = stash::slots(desk);
+    gathering::arrange(
+        bank,
+        places,
+        at,
+        v.sizes,
+        v.leaf,
+        ids,
+        w,
+        n,
+        slots,
+        count,
+        r,
+        carried,
+    )
+}
+
+// The record that the requested block carries on, as an array of its own, so that desk and working copy can be written.
+pub fn record_carried<'a>(
+    desk: &'a [u8],
+    path: &[u8],
+    w: &'a [u8],
+    v: View,
+    n: usize,
+    kind: Kind,
+    marked: bool,
+) -> [u8; 64]
+    requires { ⌜ Ready (now desk) (now path) v n (now w) ⌝ }
+    requires { ⌜ (kind ≡ kindAsked (now desk)) × (marked ≡ isMarked (now desk) (idAsked (now desk))) ⌝ }
+    ensures { λ r. ⌜ r ≡ ready.carriedOf (now (desk .entry)) (now (path .entry)) ⌝ }
+{
+    let mut bytes = [0u8; Sizes::RECORD];
+    words::copy(&mut bytes, 0, request::carried(desk, w, v, n, kind, marked));
+    bytes
+}
