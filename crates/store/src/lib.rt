@@ -7,16 +7,17 @@ use sizes::Sizes;
 ghost use mathlib.Core.Path.{_≡_};
 ghost use Prim.Native.Nat.{ℕ, _+_, _≤_, _<_};
 ghost use lib.ListN.{length};
-ghost use Rattle.sizes.specs.Sizes.{leaves, pathLen};
+ghost use Rattle.sizes.specs.Sizes.{leaves, pathLen, recordLen};
 ghost use Rattle.sizes.specs.Refusals.{firstOf};
 ghost use Rattle.desk.specs.Layout.{Whole, idsOf, roomOf};
-ghost use Rattle.desk.specs.Readers.{kindAsked, idAsked, isMarked};
+ghost use Rattle.desk.specs.Readers.{sizesOf, kindAsked, idAsked, newLeaf, isMarked};
+ghost use Rattle.opening.specs.Walk.{OpenDesk};
 ghost use Rattle.items.specs.Items.{Carries};
 ghost use Rattle.items.specs.Way.{Reached};
 ghost use Rattle.items.specs.Real.{real};
 ghost use Rattle.placing.specs.Bank.{mostBlocks, Inside, blocksAt, Planned};
 ghost use Rattle.placing.specs.Walk.{pick};
-ghost use Rattle.store.specs.Finish.{entryRows};
+ghost use Rattle.store.specs.Finish.{entryRows, pathRows, fullRows, result, finishBy, finishOf};
 ghost use Rattle.store.specs.Steps.{toPlace, newPath, newDesk};
 ghost use Rattle.store.specs.Ready.{Ready};
 ghost use Rattle.store.specs.Laying.{Laid, Writable, Accepted};
@@ -139,4 +140,95 @@ fn follow(
         &places[..all],
         bank,
     );
+}
+
+// A bank for the most blocks that one finish can meet.
+const BANK: usize = Sizes::SLOT * placing::MOST_BLOCKS;
+
+// Steps 3 to 6 over a path that passed its checks. Full is known before anything that was lent is written.
+fn place(
+    desk: &mut [u8],
+    path: &mut [u8],
+    record: &mut [u8],
+    w: &mut [u8],
+    v: View,
+    n: usize,
+) -> Finished
+    requires { ⌜ Ready (now desk) (now path) v n (now w) × (length (now «record») ≡ recordLen) ⌝ }
+    ensures { λ r. ⌜ result r (now (desk .exit)) (now (path .exit)) (now («record» .exit)) ≡ finishBy (firstOf (fullRows real (now (desk .entry)) (now (path .entry)))) real (now (desk .entry)) (now (path .entry)) (now («record» .entry)) ⌝ }
+{
+    let kind = request::kind_asked(desk);
+    let id = opening::id_asked(desk);
+    let marked = opening::is_marked(desk, id);
+    let carried = plan::record_carried(desk, path, w, v, n, kind, marked);
+    let mut bank = [0u8; BANK];
+    let mut places = [0u16; placing::MOST_BLOCKS];
+    let mut at = [0u8; placing::MOST_BLOCKS];
+    let c = plan::plan(
+        &mut bank,
+        &mut places,
+        &mut at,
+        desk,
+        path,
+        w,
+        v,
+        n,
+        kind,
+        marked,
+        &carried,
+    );
+    let over = c.over;
+    let room = desk[desk::ROOM] as usize;
+    if room < over {
+        desk[desk::STATUS] = desk::FULL;
+        return Finished::Refused(Refusal::Full);
+    }
+    request::hand_out(record, &carried, kind, marked);
+    follow(
+        desk,
+        path,
+        w,
+        v,
+        n,
+        kind,
+        marked,
+        c.all,
+        over,
+        &bank,
+        &places,
+        &at,
+    );
+    request::answer_for(kind, marked)
+}
+
+// Steps 1 to 6 of an open request.
+fn finish_open(desk: &mut [u8], path: &mut [u8], record: &mut [u8]) -> Finished
+    requires { ⌜ OpenDesk (now desk) × (newLeaf (now desk) < leaves (sizesOf (now desk))) ⌝ }
+    requires { ⌜ (length (now path) ≡ pathLen (sizesOf (now desk))) × (length (now «record») ≡ recordLen) ⌝ }
+    ensures { λ r. ⌜ result r (now (desk .exit)) (now (path .exit)) (now («record» .exit)) ≡ finishBy (firstOf (pathRows real (now (desk .entry)) (now (path .entry)))) real (now (desk .entry)) (now (path .entry)) (now («record» .entry)) ⌝ }
+{
+    let v = opening::view(desk);
+    let o = opening::open_path(desk, path, v);
+    let good = o.good;
+    if !good {
+        desk[desk::STATUS] = desk::FORGED;
+        return Finished::Refused(Refusal::Forged);
+    }
+    let n = o.count;
+    if opening::is_worn(path, v, n) {
+        desk[desk::STATUS] = desk::WORN;
+        return Finished::Refused(Refusal::Worn);
+    }
+    let mut w = o.bytes;
+    place(desk, path, record, &mut w, v, n)
+}
+
+pub fn finish(desk: &mut [u8], path: &mut [u8], record: &mut [u8]) -> Finished
+    ensures { λ r. ⌜ result r (now (desk .exit)) (now (path .exit)) (now («record» .exit)) ≡ finishOf real (now (desk .entry)) (now (path .entry)) (now («record» .entry)) ⌝ }
+{
+    let checked = entry_checked(desk, path, record);
+    match checked {
+        Outcome::Refused(r) => Finished::Refused(r),
+        Outcome::Done => finish_open(desk, path, record),
+    }
 }
