@@ -5,6 +5,7 @@ use desk::Shape;
 use sizes::Outcome;
 use sizes::Refusal;
 use sizes::Sizes;
+use store::Finished;
 ghost use mathlib.Core.Path.{_≡_};
 ghost use mathlib.Core.List.{[]};
 ghost use mir.Syntax.{w32};
@@ -12,11 +13,13 @@ ghost use mir.Val.{SFits};
 ghost use Rattle.desk.specs.declared.Kind.the-variants.{Read, Write};
 ghost use Rattle.asks.specs.Ask.{askOf};
 ghost use Rattle.formats.specs.Format.{formatOf};
+ghost use Rattle.items.specs.Real.{real};
+ghost use Rattle.store.specs.Finish.{finishOf};
 ghost use Rattle.sizes.specs.Sizes.{sized, pathLen, treeLen};
 ghost use Rattle.sha2.specs.Sha256.{sha256};
 ghost use Rattle.chacha20.specs.ChaCha.{cipher};
 ghost use Rattle.tree.specs.Tree.{fetchOf, putOf};
-ghost use Rattle.exports.specs.Codes.{refusalCode, outcomeCode, askedCode, lengthBy, deskLength, Answered};
+ghost use Rattle.exports.specs.Codes.{refusalCode, outcomeCode, askedCode, finishedCode, lengthBy, deskLength, Answered, Finishes};
 
 // A refusal's number, negative.
 fn refused(r: Refusal) -> i32
@@ -40,6 +43,17 @@ fn asked(a: Asked) -> i32
     match a {
         Asked::Leaf(p) => p as i32,
         Asked::Refused(r) => refused(r),
+    }
+}
+
+fn finished(f: Finished) -> i32
+    ensures { λ n. ⌜ (n ≡ finishedCode f) × SFits w32 n ⌝ }
+{
+    match f {
+        Finished::Record => 1,
+        Finished::Never => 2,
+        Finished::Done => 3,
+        Finished::Refused(r) => refused(r),
     }
 }
 
@@ -110,6 +124,13 @@ pub extern "C" fn bawnaroy_ask_write(desk: &mut [u8], id: u16, leaf: u16, record
     ensures { λ r. ⌜ Answered r (now (desk .exit)) (askedCode (askOf (now (desk .entry)) Write id leaf (now («record» .entry)) .answer)) (askOf (now (desk .entry)) Write id leaf (now («record» .entry)) .desk) ⌝ }
 {
     asked(asks::ask(desk, Kind::Write, id, leaf, record))
+}
+
+#[no_mangle]
+pub extern "C" fn bawnaroy_finish(desk: &mut [u8], path: &mut [u8], record: &mut [u8]) -> i32
+    ensures { λ r. ⌜ Finishes r (now (desk .exit)) (now (path .exit)) (now («record» .exit)) (finishOf real (now (desk .entry)) (now (path .entry)) (now («record» .entry))) ⌝ }
+{
+    finished(store::finish(desk, path, record))
 }
 
 #[no_mangle]
