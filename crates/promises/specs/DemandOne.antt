@@ -41,7 +41,8 @@ pub record ByRows {A : Type 0} (rows : List (Bool × Refusal)) (answer : A) (ref
   pub first : (q : Refusal) → (answer ≡ refused q) ↔ First rows q
   pub none : ((q : Refusal) → answer ≡ refused q → ⊥) ↔ ((i : ℕ) → i < length rows → getD rows i (false, BadDesk) .0 ≡ false)
 
--- ---- one result: two that an entry's statement allows are equal, answer and every buffer
+-- ---- one result: two that an entry's statement allows are equal, answer and every buffer. Each contract is one equation with the whole result, so this is
+-- seen at once; what it says is that no statement leaves a byte open
 
 abbrev pub One : {R : Type 0} → R → Type 0
 One {R} determined = (r r′ : R) → r ≡ determined → r′ ≡ determined → r ≡ r′
