@@ -9,12 +9,12 @@ use Rattle.sizes.specs.declared.Outcome.the-variants as outcome
 use Rattle.sizes.specs.Sizes.{sized, InRange, deskLen, treeLen, pathLen, recordLen, mostIds, mostSlots}
 use Rattle.formats.specs.Format.{FormatResult, formatOf}
 use Rattle.desk.specs.declared.Kind.{Kind}
-use Rattle.store.specs.declared.Answered.{Answered}
-use Rattle.store.specs.declared.Answered.the-variants as answered
+use Rattle.requests.specs.declared.Answered.{Answered}
+use Rattle.requests.specs.declared.Answered.the-variants as answered
 use Rattle.store.specs.declared.Finished.{Finished}
 use Rattle.store.specs.declared.Finished.the-variants as finished
-use Rattle.store.specs.Request.{RequestResult}
-use Rattle.store.specs.Request as store
+use Rattle.requests.specs.Request.{RequestResult}
+use Rattle.requests.specs.Request as requests
 use Rattle.script.specs.declared.First.{First}
 use Rattle.script.specs.declared.First.the-variants as first
 use Rattle.script.specs.declared.Line.{Line}
@@ -137,7 +137,7 @@ answerStep q l z s n k kind id sh =
 abbrev pub requestStep : Line → ℕ → ℕ → ℕ → ℕ → ℕ → List ℕ → Shelf → Moved
 requestStep (line.Request kind id leaf text) l z s n k xs sh =
     answerStep
-    (store.requestOf (take (deskLen n s) (sh .desk)) (take (treeLen (sized l z)) (sh .tree)) (take (pathLen (sized l z)) (sh .path)) (recordOf (drop text xs)) kind id leaf)
+    (requests.requestOf (take (deskLen n s) (sh .desk)) (take (treeLen (sized l z)) (sh .tree)) (take (pathLen (sized l z)) (sh .path)) (recordOf (drop text xs)) kind id leaf)
     l z s n (k + 1) kind id sh
 requestStep line.Bad l z s n k xs sh = badStep sh
 

@@ -1,5 +1,6 @@
 // The run of a script, line by line, over a store's buffers and a tree of its own. What a line does is `stepOf` of specs/Run.antt. Assumes nothing.
 use desk::Kind;
+use requests::Answered;
 use script::Answer;
 use script::First;
 use script::Line;
@@ -9,7 +10,6 @@ use script::reading;
 use sizes::Outcome;
 use sizes::Refusal;
 use sizes::Sizes;
-use store::Answered;
 use store::Finished;
 ghost use mathlib.Core.Path.{_≡_};
 ghost use mathlib.Core.List.{[]};
@@ -261,7 +261,7 @@ fn ready(
             let t = tree_len(height, slots);
             let p = path_len(height, slots);
             reading::lay_text(record, &line[text..]);
-            let answered = store::request(
+            let answered = requests::request(
                 &mut desk[..d],
                 &mut tree[..t],
                 &mut path[..p],

@@ -10,9 +10,9 @@ use Rattle.words.proofs.Splice.{splice-nil}
 use Rattle.sizes.specs.declared.Outcome.{Outcome}
 use Rattle.sizes.specs.Sizes.{sized, deskLen, treeLen, pathLen, mostSlots}
 use Rattle.desk.specs.declared.Kind.{Kind}
-use Rattle.store.specs.declared.Answered.{Answered}
-use Rattle.store.specs.Request as store
-use Rattle.store.specs.Request.{RequestResult, requested}
+use Rattle.requests.specs.declared.Answered.{Answered}
+use Rattle.requests.specs.Request as requests
+use Rattle.requests.specs.Request.{RequestResult, requested}
 use Rattle.script.specs.declared.Line.{Line}
 use Rattle.script.specs.declared.Line.the-variants as line
 use Rattle.formats.specs.Format.{formatOf, result}
@@ -68,7 +68,7 @@ second-said l z s n xs desk leaves x y d ls m g h k e f i j r o =
 -- a request was read, and its call answered a and left d, t, p and b
 pub request-by : (l z s n k : ℕ) (xs : List ℕ) (sh : Shelf) (kind : Kind) (id leaf text : ℕ) (a : Answered) (d t p b : List ℕ) (dl tl pl : ℕ) (lent : List ℕ)
     → requestOf xs ≡ line.Request kind id leaf text → dl ≡ deskLen n s → tl ≡ treeLen (sized l z) → pl ≡ pathLen (sized l z) → lent ≡ recordOf (drop text xs)
-    → requested a d t p b ≡ store.requestOf (take dl (sh .desk)) (take tl (sh .tree)) (take pl (sh .path)) lent kind id leaf
+    → requested a d t p b ≡ requests.requestOf (take dl (sh .desk)) (take tl (sh .tree)) (take pl (sh .path)) lent kind id leaf
     → requestStep (requestOf xs) l z s n k xs sh
     ≡ moved (run.Ready l z s n (k + 1)) (rowFor a (k + 1) kind id b) (shelf (over dl (sh .desk) d) (over tl (sh .tree) t) (over pl (sh .path) p) b (sh .leaves))
 request-by l z s n k xs sh kind id leaf text a d t p b dl tl pl lent e f g h i r =
