@@ -46,6 +46,7 @@ pub fn run(sides: &[Side]) {
         cells.push(format!("{name} finish, us"));
         cells.push(format!("{name} digest and cipher, us"));
         cells.push(format!("{name} their share"));
+        cells.push(format!("{name} whole request to them"));
     }
     head(&cells);
     for (height, slots, ids, stash) in SIZES {
@@ -67,6 +68,7 @@ pub fn run(sides: &[Side]) {
             cells.push(format!("{finish:.1}"));
             cells.push(format!("{alone:.1}"));
             cells.push(format!("{:.0} %", 100.0 * alone / finish));
+            cells.push(format!("{:.2}", micros(best.request) / alone));
         }
         row(&cells);
     }
