@@ -6,6 +6,7 @@ pub mod Frame
 pub mod Refused
 pub mod Read
 pub mod Places
+pub mod Together
 pub mod Stash
 pub mod Moved
 pub mod Request

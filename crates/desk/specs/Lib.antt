@@ -3,6 +3,7 @@ pub mod Status
 pub mod Numbers
 pub mod Readers
 pub mod Good
+pub mod Together
 pub mod Changes
 pub mod View
 pub mod Stash

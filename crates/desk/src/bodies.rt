@@ -1,13 +1,15 @@
 // When the bodies (c), (d) and (e) of a desk are good, under the sizes and the status of body (a).
 use super::Shape;
+use super::positions;
 ghost use mathlib.Core.Path.{_≡_};
 ghost use Prim.Native.Nat.{_+_, _*_, _≤_, _<_};
 ghost use lib.ListN.{length};
 ghost use Rattle.words.specs.Tests.{all};
-ghost use Rattle.sizes.specs.Sizes.{requestHead, placeLen, dLen};
+ghost use Rattle.sizes.specs.Sizes.{requestHead, dLen};
 ghost use Rattle.slots.specs.Slots.{slotBy};
-ghost use Rattle.desk.specs.Layout.{Small, slotAt, eLen, shapeLen, markIn};
-ghost use Rattle.desk.specs.Good.{openGood, requestGood, placeGood, placesGood, slotAfter, slotGood, stashGood, bodiesGood};
+ghost use Rattle.desk.specs.Layout.{Small, slotAt, eLen, shapeLen};
+ghost use Rattle.desk.specs.Together.{InSixteenBits};
+ghost use Rattle.desk.specs.Good.{openGood, requestGood, slotAfter, slotGood, stashGood, bodiesGood};
 
 // Whether body (c) is good at a status that is not 0.
 fn open_good(c: &[u8], most: usize, n: usize) -> bool
@@ -37,30 +39,6 @@ fn request_good(c: &[u8], status: u8, most: usize, n: usize) -> bool
         return words::is_zero(c);
     }
     open_good(c, most, n)
-}
-
-// Whether the place of number `i`, from 0 on, holds a leaf and a mark.
-fn place_good(d: &[u8], i: usize, most: usize) -> bool
-    requires { ⌜ placeLen * i + markIn < length (now d) ⌝ }
-    ensures { λ x. ⌜ x ≡ placeGood most (now (d .entry)) i ⌝ }
-{
-    let at = super::PLACE * i;
-    ((words::get16(d, at) as usize) < most) & (d[at + super::MARK_IN] <= 1)
-}
-
-// Whether the first `n` places are good.
-fn places_good(d: &[u8], n: usize, most: usize) -> bool
-    requires { ⌜ dLen n ≤ length (now d) ⌝ }
-    ensures { λ x. ⌜ x ≡ placesGood most n (now (d .entry)) ⌝ }
-{
-    let mut i = 0;
-    while i < n {
-        if !place_good(d, i, most) {
-            return false;
-        }
-        i += 1;
-    }
-    true
 }
 
 // Whether slot `i` of the stash `e` is good, after one with id `last`.
@@ -113,14 +91,14 @@ fn stash_good(d: &[u8], e: &[u8], h: Shape) -> bool
 
 // Whether the bodies (c), (d) and (e) are good.
 pub fn bodies_good(desk: &[u8], most: usize, h: Shape, status: u8) -> bool
-    requires { ⌜ (length (now desk) ≡ shapeLen h) × Small h ⌝ }
+    requires { ⌜ (length (now desk) ≡ shapeLen h) × (Small h × InSixteenBits most) ⌝ }
     ensures { λ x. ⌜ x ≡ bodiesGood most h status (now (desk .entry)) ⌝ }
 {
     let c_at = h.c_at();
     let d_at = h.d_at();
     let e_at = h.e_at();
     let c = request_good(&desk[c_at..d_at], status, most, h.n);
-    let d = places_good(&desk[d_at..e_at], h.n, most);
+    let d = positions::places_good(&desk[d_at..e_at], h.n, most);
     let e = stash_good(&desk[d_at..e_at], &desk[e_at..], h);
     c & d & e
 }

@@ -4,6 +4,7 @@ use sizes::Sizes;
 
 // When the bodies (c), (d) and (e) are good.
 mod bodies;
+mod positions;
 
 ghost use mathlib.Core.Path.{_≡_};
 ghost use mathlib.Core.List.{[], _∷_, _++_};

@@ -44,6 +44,11 @@ pub all-more : (p : ℕ → Bool) (i : ℕ) → all i p ≡ true → p i ≡ tru
 unfolding all
 all-more p i h k = rw (add-one, h, k)
 
+-- one more index, whatever comes out
+pub all-step : (p : ℕ → Bool) (i : ℕ) (a b : Bool) → a ≡ all i p → b ≡ p i → (a && b) ≡ all (i + 1) p
+unfolding all
+all-step p i a b h k = rw (add-one, h, k)
+
 -- the first index that fails decides
 pub all-fails : (p : ℕ → Bool) (n i : ℕ) → i < n → p i ≡ false → all n p ≡ false
 unfolding all
@@ -57,6 +62,9 @@ all-fails p (suc n) i h k =
 -- the loop's end
 pub all-end : (p : ℕ → Bool) (n i : ℕ) → i ≤ n → n ≤ i → all i p ≡ true → all n p ≡ true
 all-end p n i h k a = rw (le-antisymm k h) a
+
+pub all-done : (p : ℕ → Bool) (n i : ℕ) (a : Bool) → i ≤ n → n ≤ i → a ≡ all i p → a ≡ all n p
+all-done p n i a h k e = rw (le-antisymm k h) e
 
 -- ---- all: what its callers need
 

@@ -56,7 +56,7 @@ shared-slice-read-bodies-good : tie.Need-shared-slice-read-bodies-good
 shared-slice-read-bodies-good c = search needs
 
 bodies-good-requires : tie.Need-bodies-good-requires
-bodies-good-requires c κs = (c .before .before .before .before .if3 .left ∙ c .before .before .before .before .before .len .ensures, small (c .before .before .before .before .before .before))
+bodies-good-requires c κs = (c .before .before .before .before .if3 .left ∙ c .before .before .before .before .before .len .ensures, (small (c .before .before .before .before .before .before), (c .before .leaves .ensures .1 .0, omega (arith, c .before .leaves .ensures .1 .1))))
 
 returns-4 : tie.Need-returns-4
 unfolding goodDesk

@@ -1,7 +1,7 @@
--- `desk::bodies::place_good` meets its contract: the tests of the definition, in its order. Assumes nothing.
+-- `desk::positions::place_good` meets its contract: the tests of the definition, in its order. Assumes nothing.
 use borrow.Author.Needs.{needs}
-use Rattle.desk.proofs.bodies.place_good.Statement.{statement}
-use Rattle.desk.proofs.bodies.place_good.Tie as tie
+use Rattle.desk.proofs.positions.place_good.Statement.{statement}
+use Rattle.desk.proofs.positions.place_good.Tie as tie
 
 mul-at : tie.Need-mul-at
 mul-at c = search needs
