@@ -24,7 +24,7 @@ use Rattle.desk.specs.Readers.{sizesOf, kindAsked, idAsked, newLeaf, recordAske
 use Rattle.desk.specs.Numbers.{kindOf, kindFrom}
 use Rattle.desk.specs.Status.{openStatus}
 use Rattle.desk.specs.Good.{goodDesk, openTests, openGood}
-use Rattle.desk.specs.View.{viewOf, toStatus, toRequest}
+use Rattle.desk.specs.Parts.{partsOf, toStatus, toRequest}
 use Rattle.desk.proofs.Request.{number-zeros}
 use Rattle.desk.proofs.Changed.{Changed, unchanged, status-changed, request-changed}
 use Rattle.desk.proofs.Frame.{good-sound, open-sound, changed-good}
@@ -129,7 +129,7 @@ module _ (desk : List ℕ) (kind : Kind) (id leaf : ℕ) (rec : List ℕ) (p : A
   small-id = omega (arith, p .id-high, p .known .head .ids-high)
 
   -- what it holds: status 1 and the request, and all else as it was
-  pub opened-changed : Changed desk (opened desk kind id leaf rec) (toStatus openStatus (toRequest request (viewOf desk)))
+  pub opened-changed : Changed desk (opened desk kind id leaf rec) (toStatus openStatus (toRequest request (partsOf desk)))
   unfolding opened
   opened-changed =
       status-changed (p .known .size)

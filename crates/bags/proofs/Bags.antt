@@ -7,7 +7,7 @@ use native.Mathlib.Nat.{zero-add}
 use native.Mathlib.Omega.{arith}
 use lib.ListN.{length}
 use Rattle.words.proofs.Tests.{byCases}
-use Rattle.bags.specs.Bags.{bit, cnt, those, Same, All, AllOf}
+use Rattle.bags.specs.Bags.{bit, cnt, those, Same, All}
 
 pub bit-le : (b : Bool) → bit b ≤ 1
 bit-le true = omega arith

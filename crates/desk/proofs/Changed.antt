@@ -17,7 +17,7 @@ use Rattle.desk.specs.Layout.{bAt, cAt, cLen, dAt, eAt, eLen, shapeLen, 
 use Rattle.desk.specs.Readers.{sizesOf, statusOf, writtenOf, keyOf, rootOf}
 use Rattle.desk.specs.Status.{atStatus}
 use Rattle.desk.specs.Changes.{withRequest, withPlace, withRoot, withStash, stashBytes}
-use Rattle.desk.specs.View.{View, viewOf, toStatus, toRequest, toPlace, toRoot, toStash}
+use Rattle.desk.specs.Parts.{Parts, partsOf, toStatus, toRequest, toPlace, toRoot, toStash}
 use Rattle.desk.proofs.Outside.{Outside, set-outside, splice-outside, part-outside, drop-outside, part-splice-inside, drop-splice-end}
 
 -- the same length, contents, sizes, zero byte and key
@@ -28,7 +28,7 @@ pub record Same (xs ys : List ℕ) : Type 0 where
   pub key : keyOf ys ≡ keyOf xs
 
 -- ys has the parts v, and all else as the desk xs has it
-pub record Changed (xs ys : List ℕ) (v : View) : Type 0 where
+pub record Changed (xs ys : List ℕ) (v : Parts) : Type 0 where
   pub same : Same xs ys
   pub status : statusOf ys ≡ v .status
   pub written : writtenOf ys ≡ v .written
@@ -37,7 +37,7 @@ pub record Changed (xs ys : List ℕ) (v : View) : Type 0 where
   pub places : bodyD (shapeOf xs) ys ≡ v .places
   pub stash : bodyE (shapeOf xs) ys ≡ v .stash
 
-pub unchanged : (xs : List ℕ) → Changed xs xs (viewOf xs)
+pub unchanged : (xs : List ℕ) → Changed xs xs (partsOf xs)
 unchanged xs =
     record {
       same = record { size = refl; low = λ i h. refl; high = λ i h k. refl; key = refl };
@@ -66,7 +66,7 @@ module _ {xs ys : List ℕ} (c : Same xs ys) where
 
 -- ---- the changes, of a desk with its own length
 
-module _ {xs ys : List ℕ} {v : View} (w : length xs ≡ shapeLen (shapeOf xs)) (c : Changed xs ys v) where
+module _ {xs ys : List ℕ} {v : Parts} (w : length xs ≡ shapeLen (shapeOf xs)) (c : Changed xs ys v) where
   abbrev h : Shape
   h = shapeOf xs
 
@@ -204,7 +204,7 @@ module _ {xs ys : List ℕ} {v : View} (w : length xs ≡ shapeLen (shapeOf xs))
         stash = off-stash o (omega arith);
       }
 
-pub root-changed : {xs ys : List ℕ} {v : View} → length xs ≡ shapeLen (shapeOf xs) → Changed xs ys v → (digest : List ℕ) → length digest ≡ digestLen
+pub root-changed : {xs ys : List ℕ} {v : Parts} → length xs ≡ shapeLen (shapeOf xs) → Changed xs ys v → (digest : List ℕ) → length digest ≡ digestLen
     → Changed xs (withRoot digest ys) (toRoot digest v)
 unfolding withRoot
 root-changed w c digest l = written-changed w (digest-changed w c digest l) 1

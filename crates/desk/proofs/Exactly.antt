@@ -14,14 +14,13 @@ use Rattle.words.specs.Numbers.{number}
 use Rattle.words.specs.Tests.{Each, all, allZero}
 use Rattle.words.proofs.Splice.{length-part}
 use Rattle.words.proofs.Tests.{each, every-of, all-at, all-true}
-use Rattle.sizes.specs.Sizes.{leaves, requestHead}
-use Rattle.slots.specs.Slots.{leafIn}
+use Rattle.sizes.specs.Sizes.{leaves, requestHead, leafIn}
 use Rattle.slots.proofs.Blocks.{drop-part}
 use Rattle.desk.specs.declared.Shape.{Shape}
 use Rattle.desk.specs.Layout.{cAt, cLen, dAt, eAt, slotAt, shapeLen, bodyC, bodyD, bodyE, idsOf, shapeOf, placeAt, markIn, zeroIn, zerosIn}
 use Rattle.desk.specs.Readers.{sizesOf, statusOf, positionOf, markOf, recordAsked, stashCount, stashId, stashLeaf}
 use Rattle.desk.specs.Good.{Good, idAt, idBefore, slotAfter, slotGood, placeGood, placesGood, stashGood, goodDesk}
-use Rattle.desk.specs.View.{viewOf}
+use Rattle.desk.specs.Parts.{partsOf}
 use Rattle.desk.proofs.Known.{known}
 use Rattle.desk.proofs.Changed.{Changed, unchanged}
 use Rattle.desk.proofs.Frame.{good-of}
@@ -46,7 +45,7 @@ module _ (desk : List ℕ) where
   abbrev most : ℕ
   most = leaves (sizesOf desk)
 
-  u : Changed desk desk (viewOf desk)
+  u : Changed desk desk (partsOf desk)
   u = unchanged desk
 
   -- ---- the record of body (c)

@@ -18,19 +18,19 @@ use Rattle.desk.specs.Layout.{bAt, shapeLen, contents, zeroAt, idsOf, sh
 use Rattle.desk.specs.Readers.{sizesOf, statusOf}
 use Rattle.desk.specs.Status.{readyStatus, openStatus, mostStatus}
 use Rattle.desk.specs.Good.{headTests, headGood, openGood, requestGood, placesGood, stashGood, bodiesTests, bodiesGood, deskTests, goodDesk}
-use Rattle.desk.specs.View.{View, viewOf, toStatus, toRequest, toRoot}
+use Rattle.desk.specs.Parts.{Parts, partsOf, toStatus, toRequest, toRoot}
 use Rattle.desk.proofs.Known.{Head, Known, known, ids-good}
 use Rattle.desk.proofs.Changed.{Changed, same-ids, same-shape, same-sizes}
 
 -- parts that fit the sizes of a desk
-pub record Sound (desk : List ℕ) (v : View) : Type 0 where
+pub record Sound (desk : List ℕ) (v : Parts) : Type 0 where
   pub status-high : v .status ≤ mostStatus
   pub written-high : v .written ≤ 1
   pub request-good : requestGood (v .status) (leaves (sizesOf desk)) (idsOf desk) (v .request) ≡ true
   pub places-good : placesGood (leaves (sizesOf desk)) (idsOf desk) (v .places) ≡ true
   pub stash-good : stashGood (shapeOf desk) (v .places) (v .stash) ≡ true
 
-pub good-sound : (desk : List ℕ) → goodDesk desk ≡ true → Sound desk (viewOf desk)
+pub good-sound : (desk : List ℕ) → goodDesk desk ≡ true → Sound desk (partsOf desk)
 good-sound desk g =
     let k = known desk g in
     record {
@@ -63,7 +63,7 @@ good-of desk k =
       ),
     )
 
-module _ {xs ys : List ℕ} {v : View} (g : goodDesk xs ≡ true) (c : Changed xs ys v) (s : Sound xs v) where
+module _ {xs ys : List ℕ} {v : Parts} (g : goodDesk xs ≡ true) (c : Changed xs ys v) (s : Sound xs v) where
   kept-head : Head ys
   kept-head =
       let h = known xs g .head in
@@ -108,7 +108,7 @@ pub stop-request : (s t most n : ℕ) (q : List ℕ) → (s ≡ readyStatus → 
 unfolding requestGood
 stop-request s t most n q a b h = rw (ne-eqb t readyStatus b) (rw (ne-eqb s readyStatus a) at h)
 
-pub stop-sound : {desk : List ℕ} {v : View} (t : ℕ) → Sound desk v → (v .status ≡ readyStatus → ⊥) → (t ≡ readyStatus → ⊥) → t ≤ mostStatus → Sound desk (toStatus t v)
+pub stop-sound : {desk : List ℕ} {v : Parts} (t : ℕ) → Sound desk v → (v .status ≡ readyStatus → ⊥) → (t ≡ readyStatus → ⊥) → t ≤ mostStatus → Sound desk (toStatus t v)
 stop-sound {desk} {v} t s a b h =
     record {
       status-high = h;
@@ -119,17 +119,17 @@ stop-sound {desk} {v} t s a b h =
     }
 
 -- an open desk has a good request
-pub open-sound : {desk : List ℕ} {v : View} (q : List ℕ) → Sound desk v → openGood (leaves (sizesOf desk)) (idsOf desk) q ≡ true → Sound desk (toStatus openStatus (toRequest q v))
+pub open-sound : {desk : List ℕ} {v : Parts} (q : List ℕ) → Sound desk v → openGood (leaves (sizesOf desk)) (idsOf desk) q ≡ true → Sound desk (toStatus openStatus (toRequest q v))
 unfolding requestGood
 open-sound q s o =
     record { status-high = omega arith; written-high = s .written-high; request-good = o; places-good = s .places-good; stash-good = s .stash-good }
 
 -- a ready desk has none
-pub ready-sound : {desk : List ℕ} {v : View} (n : ℕ) → Sound desk v → Sound desk (toStatus readyStatus (toRequest (zeros n) v))
+pub ready-sound : {desk : List ℕ} {v : Parts} (n : ℕ) → Sound desk v → Sound desk (toStatus readyStatus (toRequest (zeros n) v))
 unfolding requestGood
 ready-sound n s =
     record { status-high = omega arith; written-high = s .written-high; request-good = zeros-zero n; places-good = s .places-good; stash-good = s .stash-good }
 
-pub root-sound : {desk : List ℕ} {v : View} (digest : List ℕ) → Sound desk v → Sound desk (toRoot digest v)
+pub root-sound : {desk : List ℕ} {v : Parts} (digest : List ℕ) → Sound desk v → Sound desk (toRoot digest v)
 root-sound digest s =
     record { status-high = s .status-high; written-high = omega arith; request-good = s .request-good; places-good = s .places-good; stash-good = s .stash-good }

@@ -15,7 +15,7 @@ use Rattle.desk.specs.Readers.{sizesOf}
 use Rattle.desk.specs.Status.{readyStatus, atStatus}
 use Rattle.desk.specs.Changes.{withRequest, withPlace, withRoot, withStash}
 use Rattle.desk.specs.Good.{goodDesk}
-use Rattle.desk.specs.View.{View, viewOf, toStatus, toRequest, toRoot, toPlace, toStash}
+use Rattle.desk.specs.Parts.{Parts, partsOf, toStatus, toRequest, toRoot, toPlace, toStash}
 use Rattle.desk.specs.Stash.{Stashed}
 use Rattle.desk.proofs.Known.{known}
 use Rattle.desk.proofs.Changed.{Changed, unchanged, status-changed, request-changed, place-changed, stash-changed, root-changed}
@@ -23,7 +23,7 @@ use Rattle.desk.proofs.Frame.{Sound, good-sound, ready-sound, root-soun
 use Rattle.desk.proofs.Places.{place-good}
 use Rattle.desk.proofs.Stash.{length-stash, stash-good}
 
-pub moved-sound : {desk : List ℕ} {v : View} (id leaf mark : ℕ) (bs : List Block) → Sound desk v → dLen (idsOf desk) ≤ length (v .places) → 1 ≤ id → id ≤ idsOf desk
+pub moved-sound : {desk : List ℕ} {v : Parts} (id leaf mark : ℕ) (bs : List Block) → Sound desk v → dLen (idsOf desk) ≤ length (v .places) → 1 ≤ id → id ≤ idsOf desk
     → leaf < leaves (sizesOf desk) → leaf < 65536 → mark ≤ 1
     → Stashed (shapeOf desk) (toPlace id leaf mark v .places) bs → AllFit (shapeOf desk .r) bs → length bs < 65536
     → Sound desk (toStash (shapeOf desk) bs (toPlace id leaf mark v))
@@ -40,8 +40,8 @@ moved-sound {desk} {v} id leaf mark bs s long low high l w m st fit few =
 
 module _ (desk : List ℕ) (g : goodDesk desk ≡ true) (id leaf mark : ℕ) (bs : List Block) (digest : List ℕ) (low : 1 ≤ id) (high : id ≤ idsOf desk) (fit : AllFit (shapeOf desk .r) bs)
     (room : length bs ≤ roomOf desk) (long : length digest ≡ digestLen) where
-  abbrev moved : View
-  moved = toStash (shapeOf desk) bs (toPlace id leaf mark (viewOf desk))
+  abbrev moved : Parts
+  moved = toStash (shapeOf desk) bs (toPlace id leaf mark (partsOf desk))
 
   abbrev none : List ℕ
   none = zeros (cLen (shapeOf desk))
@@ -58,7 +58,7 @@ module _ (desk : List ℕ) (g : goodDesk desk ≡ true) (id leaf mark : ℕ) (bs
       → goodDesk (atStatus readyStatus (withRequest none (withRoot digest (withStash bs (withPlace id leaf mark desk))))) ≡ true
   settled-good l m st few =
       let k = known desk g in
-      let d : dLen (idsOf desk) ≤ length (viewOf desk .places) =
+      let d : dLen (idsOf desk) ≤ length (partsOf desk .places) =
       omega (arith, k .size, length-part desk (dAt (shapeOf desk)) (eAt (shapeOf desk) - dAt (shapeOf desk)) (omega (arith, k .size))) in
       let small : leaf < 65536 = omega (arith, leaves-most (sizesOf desk) (k .head .sizes .height-high)) in
       changed-good g settled-changed (ready-sound (cLen (shapeOf desk)) (root-sound digest (moved-sound id leaf mark bs (good-sound desk g) d low high l small m st fit few)))

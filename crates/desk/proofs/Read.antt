@@ -9,15 +9,15 @@ use Rattle.words.specs.Bytes.{part}
 use Rattle.words.specs.Numbers.{number}
 use Rattle.words.proofs.Splice.{getD-part, part-part}
 use Rattle.words.proofs.Numbers.{number-part, number-drop}
-use Rattle.sizes.specs.Sizes.{requestHead, countLen}
-use Rattle.slots.specs.Slots.{leafIn, blocksBy}
+use Rattle.sizes.specs.Sizes.{requestHead, countLen, leafIn}
+use Rattle.slots.specs.Slots.{blocksBy}
 use Rattle.desk.specs.declared.Shape.{Shape}
 use Rattle.desk.specs.Layout.{cAt, dAt, eAt, slotAt, idsOf, shapeOf, kindIn, idIn, newLeafIn, placeAt, markIn}
 use Rattle.desk.specs.Readers.{kindByte, idAsked, newLeaf, recordAsked, positionOf, markOf, stashCount, stashId, stashLeaf, stashOf}
-use Rattle.desk.specs.View.{View}
+use Rattle.desk.specs.Parts.{Parts}
 use Rattle.desk.proofs.Changed.{Changed, same-shape}
 
-module _ {xs ys : List ℕ} {v : View} (c : Changed xs ys v) where
+module _ {xs ys : List ℕ} {v : Parts} (c : Changed xs ys v) where
   abbrev h : Shape
   h = shapeOf xs
 

@@ -15,15 +15,15 @@ use Rattle.words.specs.Tests.{Each, all, allZero}
 use Rattle.words.proofs.Splice.{length-zeros}
 use Rattle.words.proofs.Numbers.{number-drop, number-bytesOf, length-bytesOf}
 use Rattle.words.proofs.Tests.{each, every-of, all-at, all-true, zeros-zero}
-use Rattle.sizes.specs.Sizes.{countLen}
-use Rattle.slots.specs.Slots.{Block, slotBy, leafIn, blockBy, blocksBy, slotsBytes, AllFit, Bytes}
+use Rattle.sizes.specs.Sizes.{countLen, leafIn}
+use Rattle.slots.specs.Slots.{Block, slotBy, blockBy, blocksBy, slotsBytes, AllFit, Bytes, Rising}
 use Rattle.slots.proofs.Numbers.{number-left, bytesOf-number}
 use Rattle.slots.proofs.Blocks.{length-slots, length-blocks, blocks-slots, slots-suc, slots-blocks}
 use Rattle.desk.specs.declared.Shape.{Shape}
 use Rattle.desk.specs.Layout.{slotAt, eLen, placeAt, markIn}
 use Rattle.desk.specs.Good.{idAt, idBefore, slotAfter, slotGood, stashGood}
 use Rattle.desk.specs.Changes.{stashBytes}
-use Rattle.desk.specs.Stash.{Rising, Placed, AllPlaced, Stashed}
+use Rattle.desk.specs.Stash.{Placed, AllPlaced, Stashed}
 use Rattle.desk.proofs.Request.{zero-zeros}
 
 -- ---- body (e) of blocks

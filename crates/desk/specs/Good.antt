@@ -8,8 +8,7 @@ use lib.Dec.{leb, ltb, eqb}
 use Rattle.words.specs.Bytes.{part, zeros, same}
 use Rattle.words.specs.Numbers.{number}
 use Rattle.words.specs.Tests.{all, allZero, every}
-use Rattle.sizes.specs.Sizes.{mostHeight, mostSlots, mostIds, sizesGood, idsGood, leaves, deskLen, contentsLen, requestHead, placeLen}
-use Rattle.slots.specs.Slots.{leafIn}
+use Rattle.sizes.specs.Sizes.{mostHeight, mostSlots, mostIds, sizesGood, idsGood, leaves, deskLen, contentsLen, requestHead, placeLen, leafIn}
 use Rattle.desk.specs.declared.Shape.{Shape}
 use Rattle.desk.specs.declared.Kind.the-variants.{Read, Write}
 use Rattle.desk.specs.Layout.{bAt, cAt, cLen, eAt, slotAt, shapeLen, bodyC, bodyD, bodyE, contents, zeroAt, idsOf, roomOf, shapeOf, kindIn, zeroIn, idIn, newLeafIn, zerosIn, placeAt, markIn}

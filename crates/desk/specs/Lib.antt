@@ -5,5 +5,5 @@ pub mod Readers
 pub mod Good
 pub mod Together
 pub mod Changes
-pub mod View
+pub mod Parts
 pub mod Stash

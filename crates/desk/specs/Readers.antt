@@ -7,8 +7,8 @@ use lib.Dec.{eqb}
 use Rattle.words.specs.Bytes.{part}
 use Rattle.words.specs.Numbers.{number}
 use Rattle.sizes.specs.declared.Sizes.{Sizes}
-use Rattle.sizes.specs.Sizes.{sized, keyLen, digestLen, requestHead, countLen}
-use Rattle.slots.specs.Slots.{Block, leafIn, blocksBy}
+use Rattle.sizes.specs.Sizes.{sized, keyLen, digestLen, requestHead, countLen, leafIn}
+use Rattle.slots.specs.Slots.{Block, blocksBy}
 use Rattle.desk.specs.declared.Kind.{Kind}
 use Rattle.desk.specs.Layout.{bAt, cAt, dAt, eAt, slotAt, heightAt, slotsAt, statusAt, writtenAt, shapeOf, rootAt, kindIn, idIn, newLeafIn, placeAt, markIn}
 use Rattle.desk.specs.Numbers.{kindFrom}

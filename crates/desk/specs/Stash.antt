@@ -1,17 +1,12 @@
 -- When blocks are a good stash under the places of a desk: what body (e) must show, said of blocks. Assumes nothing.
-use Prim.Native.Nat.{ℕ, _+_, _≤_, _<_}
+use Prim.Native.Nat.{ℕ, _+_, _≤_}
 use mathlib.Core.Path.{_≡_}
 use mathlib.Core.List.{List, [], _∷_}
 use lib.ListN.{length, getD}
 use Rattle.words.specs.Numbers.{number}
-use Rattle.slots.specs.Slots.{Block}
+use Rattle.slots.specs.Slots.{Block, Rising}
 use Rattle.desk.specs.declared.Shape.{Shape}
 use Rattle.desk.specs.Layout.{placeAt, markIn}
-
--- ids rise strictly, the first above `last`
-abbrev pub Rising : ℕ → List Block → Type 0
-Rising last [] = Unit
-Rising last (b ∷ bs) = (last < b .id) × Rising (b .id) bs
 
 -- a block's id is at most N, is marked, and carries its position's leaf; d is body (d)
 pub record Placed (h : Shape) (d : List ℕ) (b : Block) : Type 0 where

@@ -1,4 +1,4 @@
--- Sixteen places of body (d) looked at together: no byte of theirs is above the one at its place among sixteen good ones. Assumes nothing.
+-- Sixty-four places of body (d) looked at together: no byte of theirs is above the one at its place among sixty-four good ones. Assumes nothing.
 use Prim.Native.Nat.{ℕ, _*_, _≤_}
 use mathlib.Core.Bool.{Bool}
 use mathlib.Core.List.{List}
@@ -8,7 +8,7 @@ use Rattle.words.specs.Tests.{all}
 use Rattle.sizes.specs.Sizes.{placeLen}
 
 abbrev pub together : ℕ
-together = 16
+together = 64
 
 abbrev pub togetherLen : ℕ
 togetherLen = placeLen * together

@@ -1,6 +1,7 @@
 // When the bodies (c), (d) and (e) of a desk are good, under the sizes and the status of body (a).
 use super::Shape;
 use super::positions;
+use sizes::Sizes;
 ghost use mathlib.Core.Path.{_≡_};
 ghost use Prim.Native.Nat.{_+_, _*_, _≤_, _<_};
 ghost use lib.ListN.{length};
@@ -56,7 +57,7 @@ fn slot_good(d: &[u8], e: &[u8], h: Shape, i: usize, last: usize) -> bool
     }
     let place = super::PLACE * (id - 1);
     (d[place + super::MARK_IN] == 1)
-        & (words::get16(e, at + super::LEAF_IN) == words::get16(d, place))
+        & (words::get16(e, at + Sizes::LEAF_IN) == words::get16(d, place))
 }
 
 // Whether the first `count` slots of the stash are good.

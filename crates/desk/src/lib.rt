@@ -55,7 +55,7 @@ pub const B_AT: usize = A_AT + A_LEN;
 
 pub const ROOT: usize = B_AT + KEY;
 
-// In body (c), in a place of body (d), in a slot.
+// In body (c), in a place of body (d).
 pub const KIND_IN: usize = 0;
 
 pub const ZERO_IN: usize = 1;
@@ -67,8 +67,6 @@ pub const NEW_LEAF_IN: usize = 4;
 pub const ZEROS_IN: usize = 6;
 
 pub const MARK_IN: usize = 2;
-
-pub const LEAF_IN: usize = 2;
 
 // Statuses.
 pub const READY: u8 = 0;

@@ -1,4 +1,4 @@
-// When body (d) is good. Sixteen places at once are held to the highest good place, byte by byte, which the compiler does in three steps; where a
+// When body (d) is good. Sixty-four places at once are held to the highest good place, byte by byte, which the compiler does sixteen bytes at a step; where a
 // byte is above, each place is looked at by itself.
 ghost use mathlib.Core.Path.{_≡_};
 ghost use mathlib.Core.Bool.{true};
@@ -10,7 +10,7 @@ ghost use Rattle.desk.specs.Layout.{markIn};
 ghost use Rattle.desk.specs.Good.{placeGood, placesGood};
 ghost use Rattle.desk.specs.Together.{together, togetherLen, InSixteenBits, noneAbove};
 
-const TOGETHER: usize = 16;
+const TOGETHER: usize = 64;
 
 const BYTES: usize = super::PLACE * TOGETHER;
 
@@ -23,7 +23,7 @@ fn place_good(d: &[u8], i: usize, most: usize) -> bool
     ((words::get16(d, at) as usize) < most) & (d[at + super::MARK_IN] <= 1)
 }
 
-// The highest place, with the last leaf and a mark, sixteen times.
+// The highest place, with the last leaf and a mark, sixty-four times: so often that the compiler keeps the loop over them.
 fn highest(most: usize) -> [u8; BYTES]
     requires { ⌜ InSixteenBits most ⌝ }
     ensures { λ x. ⌜ placesGood most together x ≡ true ⌝ }
@@ -52,7 +52,7 @@ fn none_above(d: &[u8], top: &[u8; BYTES]) -> bool
     good
 }
 
-// Whether sixteen places from `i` on are among the first `n`, and none of their bytes is above.
+// Whether sixty-four places from `i` on are among the first `n`, and none of their bytes is above.
 fn low(d: &[u8], i: usize, n: usize, top: &[u8; BYTES]) -> bool
     requires { ⌜ (dLen n ≤ length (now d)) × ((i < n) × (length (now top) ≡ togetherLen)) ⌝ }
     ensures { λ x. ⌜ (x ≡ true → (i + together ≤ n) × (noneAbove (part (now (d .entry)) (placeLen * i) togetherLen) (now (top .entry)) ≡ true)) ⌝ }

@@ -6,12 +6,12 @@ use mathlib.Core.List.{List, [], _∷_, _++_}
 use lib.ListN.{length}
 use Rattle.words.specs.Bytes.{part}
 use Rattle.sizes.specs.declared.Sizes.{Sizes}
-use Rattle.sizes.specs.Sizes.{InRange, mostIds, leaves, counterLen, recordLen, slotLen, slotsLen, itemAt, pathLen}
+use Rattle.sizes.specs.Sizes.{InRange, mostIds, leaves, counterLen, recordLen, slotLen, slotsLen, itemAt, pathLen, mostRoom}
 use Rattle.bags.specs.Bags.{those}
 use Rattle.slots.specs.Slots.{Block, isUsed, blocksOf}
 use Rattle.placing.specs.Placing.{sorted}
 use Rattle.placing.specs.Ids.{isId, Placeable}
-use Rattle.placing.specs.Bank.{mostRoom, mostBlocks}
+use Rattle.placing.specs.Bank.{mostBlocks}
 use Rattle.gathering.specs.declared.Request.{Request}
 
 -- ---- what is found

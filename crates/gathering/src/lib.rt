@@ -1,7 +1,6 @@
 // Gathering: every block that a finish meets goes into a bank, the requested one under its new leaf, and a plan says where each goes. Blocks of
 // the opened path and of the stash are copied there, so that the lent path and the stash in the desk can be written from it.
 use placing::Counts;
-use placing::walk::LEAF_IN;
 use sizes::Sizes;
 ghost use mathlib.Core.Path.{_≡_};
 ghost use Prim.Native.Nat.{_+_, _*_, _≤_};
@@ -28,7 +27,7 @@ fn put_request(bank: &mut [u8], request: Request, record: &[u8]) -> usize
     let there = request.there;
     if there {
         words::put16(bank, 0, request.id);
-        words::put16(bank, LEAF_IN, request.leaf);
+        words::put16(bank, Sizes::LEAF_IN, request.leaf);
         words::copy(bank, Sizes::SLOT_HEAD, record);
         return 1;
     }

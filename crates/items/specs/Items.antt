@@ -1,5 +1,5 @@
 -- One item: its fields, the digest taken of it, its slots opened and sealed. Digest and cipher are parameters. Assumes nothing.
-use Prim.Native.Nat.{ℕ, _+_, _*_, _-_, _≤_}
+use Prim.Native.Nat.{ℕ, _+_, _-_, _≤_}
 use mathlib.Core.Path.{_≡_}
 use mathlib.Core.Bool.{cond}
 use mathlib.Core.List.{List, _++_}
@@ -8,9 +8,9 @@ use lib.Dec.{eqb, ltb}
 use Rattle.words.specs.Bytes.{part, zeros}
 use Rattle.words.specs.Numbers.{number, bytesOf}
 use Rattle.sizes.specs.declared.Sizes.{Sizes}
-use Rattle.sizes.specs.Sizes.{InRange, slotLen, counterLen, digestLen, slotsLen, pathLen, flagAt, digestAt}
+use Rattle.sizes.specs.Sizes.{InRange, counterLen, digestLen, slotsLen, pathLen, flagAt, digestAt}
 use Rattle.bags.specs.Bags.{those}
-use Rattle.slots.specs.Slots.{Block, isUsed, blocksOf, slotsBytes}
+use Rattle.slots.specs.Slots.{Block, isUsed, blocksOf, slotsWith}
 
 -- the digest of bytes, and the text that a cipher makes of a key, a nonce and a text
 pub record Means : Type 0 where
@@ -70,10 +70,6 @@ slotsOpened m s key bucket item = m .cipher key (nonceOf (counterBytes item) buc
 -- the blocks of the slots in use
 unfoldable pub blocksIn : Means → Sizes → List ℕ → ℕ → List ℕ → List Block
 blocksIn m s key bucket item = those isUsed (blocksOf (s .slots) (slotsOpened m s key bucket item))
-
--- slots hold blocks, then zeros
-abbrev pub slotsWith : ℕ → List Block → List ℕ
-slotsWith room blocks = slotsBytes blocks ++ zeros (slotLen * (room - length blocks))
 
 -- a counter, and the slots that hold these blocks, enciphered
 unfoldable pub sealed : Means → Sizes → List ℕ → ℕ → ℕ → List Block → List ℕ

@@ -18,7 +18,7 @@ pub struct View {
     pub sizes: Sizes,
     pub key: [u8; 32],
     pub written: u8,
-    pub root: [u8; 32],
+    pub root: [u8; Sizes::DIGEST],
     pub leaf: usize,
 }
 
@@ -39,7 +39,7 @@ fn child(h: Hasher, flag: u8, digest: &[u8]) -> Hasher
 }
 
 // The digest of the inner item at level `k`, taken where it lies.
-fn inner_digest(path: &[u8], s: Sizes, k: usize) -> [u8; 32]
+fn inner_digest(path: &[u8], s: Sizes, k: usize) -> [u8; Sizes::DIGEST]
     requires { ⌜ Carries s (now path) × (k < s .height) ⌝ }
     ensures { λ r. ⌜ r ≡ itemDigest real s k (itemOf s (now (path .entry)) k) ⌝ }
 {
@@ -55,7 +55,7 @@ fn inner_digest(path: &[u8], s: Sizes, k: usize) -> [u8; 32]
 }
 
 // The digest of the item at level `k`.
-pub fn item_digest(path: &[u8], s: Sizes, k: usize) -> [u8; 32]
+pub fn item_digest(path: &[u8], s: Sizes, k: usize) -> [u8; Sizes::DIGEST]
     requires { ⌜ Carries s (now path) × (k ≤ s .height) ⌝ }
     ensures { λ r. ⌜ r ≡ itemDigest real s k (itemOf s (now (path .entry)) k) ⌝ }
 {
@@ -96,7 +96,7 @@ pub fn slots(path: &[u8], s: Sizes, k: usize) -> &[u8]
 }
 
 // The nonce of the item at `at`, whose bucket is given.
-fn nonce(path: &[u8], at: usize, bucket: usize) -> [u8; 12]
+fn nonce(path: &[u8], at: usize, bucket: usize) -> [u8; NONCE]
     requires { ⌜ at + counterLen ≤ length (now path) ⌝ }
     ensures { λ r. ⌜ r ≡ nonceOf (part (now (path .entry)) at counterLen) bucket ⌝ }
 {

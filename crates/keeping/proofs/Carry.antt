@@ -14,7 +14,7 @@ use Rattle.bags.specs.Bags.{cnt}
 use Rattle.slots.specs.Slots.{Block, blocksBy}
 use Rattle.desk.specs.Layout.{idsOf, shapeOf, placeAt, markIn}
 use Rattle.desk.specs.Readers.{sizesOf, keyOf, rootOf, writtenOf, isWritten, positionOf, isMarked, stashOf}
-use Rattle.desk.specs.View.{View as Parts, viewOf as partsOf}
+use Rattle.desk.specs.Parts.{Parts, partsOf}
 use Rattle.desk.proofs.Changed.{Changed, unchanged, same-ids, same-sizes}
 use Rattle.desk.proofs.Read.{read-position, read-mark, read-stash}
 use Rattle.items.specs.Items.{Means}

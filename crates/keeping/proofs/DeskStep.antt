@@ -18,7 +18,7 @@ use Rattle.desk.specs.Readers.{sizesOf, keyOf, heightOf, statusOf, kindAsked, i
 use Rattle.desk.specs.Status.{readyStatus}
 use Rattle.desk.specs.Good.{goodDesk}
 use Rattle.desk.specs.Changes.{stashBytes}
-use Rattle.desk.specs.View.{View as Parts, toStatus, toRequest, toRoot, toStash}
+use Rattle.desk.specs.Parts.{Parts, toStatus, toRequest, toRoot, toStash}
 use Rattle.desk.proofs.Known.{known}
 use Rattle.desk.proofs.Exactly.{good-conditions}
 use Rattle.desk.proofs.Changed.{Changed, status-changed, request-changed, stash-changed, root-changed, same-ids, same-sizes}

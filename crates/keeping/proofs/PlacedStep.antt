@@ -17,7 +17,7 @@ use Rattle.words.proofs.Tests.{byCases, each, every-of}
 use Rattle.sizes.specs.Sizes.{leaves, recordLen, requestHead}
 use Rattle.sizes.proofs.Lengths.{leaves-most}
 use Rattle.bags.specs.Bags.{cnt, flat, All, AllOf}
-use Rattle.slots.specs.Slots.{Block, AllFit}
+use Rattle.slots.specs.Slots.{Block, AllFit, Rising}
 use Rattle.desk.specs.declared.Kind.{Kind}
 use Rattle.desk.specs.declared.Kind.the-variants.{Read, Write}
 use Rattle.desk.specs.Layout.{cAt, shapeLen, idsOf, shapeOf, placeAt, markIn}
@@ -26,8 +26,7 @@ use Rattle.desk.specs.Status.{readyStatus}
 use Rattle.desk.specs.Good.{Good, goodDesk}
 use Rattle.desk.specs.Changes.{withPlace}
 use Rattle.desk.specs.Stash.{AllPlaced}
-use Rattle.desk.specs.Stash as stash
-use Rattle.desk.specs.View.{View as Parts, viewOf as partsOf, toPlace}
+use Rattle.desk.specs.Parts.{Parts, partsOf, toPlace}
 use Rattle.desk.proofs.Known.{known}
 use Rattle.desk.proofs.Changed.{Changed, unchanged, place-changed}
 use Rattle.desk.proofs.Read.{read-position, read-mark}
@@ -35,7 +34,6 @@ use Rattle.desk.proofs.Exactly.{good-conditions}
 use Rattle.items.specs.Items.{Means}
 use Rattle.opening.specs.Opening.{viewOf, isId}
 use Rattle.placing.specs.Placing.{onWay, sorted}
-use Rattle.placing.specs.Ids as ids
 use Rattle.placing.proofs.Rising.{sorted-rising}
 use Rattle.placing.proofs.Placing.{placed-within, placed-small, remaining-rising}
 use Rattle.store.specs.Steps as steps
@@ -221,11 +219,7 @@ module _ (m : Means) (desk path : List ℕ) (server : Server) (table : Table) (g
   pub stash-placed : AllPlaced (shapeOf desk) (partsMoved .places) (newStash m desk path)
   stash-placed = fine-placed (newStash m desk path) stash-fine
 
-  same-rising : (k : ℕ) (bs : List Block) → ids.Rising k bs → stash.Rising k bs
-  same-rising k [] r = tt
-  same-rising k (b ∷ bs) r = (r .0, same-rising (b .id) bs (r .1))
-
-  pub stash-rising : stash.Rising 0 (newStash m desk path)
+  pub stash-rising : Rising 0 (newStash m desk path)
   unfolding steps.toPlace
   stash-rising =
       let now = gatheredNow m desk path in
@@ -239,7 +233,7 @@ module _ (m : Means) (desk path : List ℕ) (server : Server) (table : Table) (g
         none-of moved after (λ b. not (leb 1 (b .id))) (idsOf desk) (λ u r g l h. ap not (le-leb 1 u g)) (idsOf desk) (omega arith),
       ))) in
       let once : (u : ℕ) → cnt (isId u) now ≤ 1 = λ u. omega (arith, bag (isId u), placed-now m desk path (isId u), few moved after u (idsOf desk) .0) in
-      same-rising 0 (newStash m desk path) (remaining-rising (sizesOf desk) (leafAsked desk) (sorted now) (sorted-rising now low once))
+      remaining-rising (sizesOf desk) (leafAsked desk) (sorted now) (sorted-rising now low once)
 
   pub placed-length : length (placed m desk path) ≡ suc (heightOf desk)
   placed-length =

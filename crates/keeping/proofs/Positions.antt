@@ -11,7 +11,7 @@ use Rattle.sizes.specs.Sizes.{dLen}
 use Rattle.desk.specs.declared.Shape.{Shape}
 use Rattle.desk.specs.Layout.{dAt, eAt, shapeLen, bodyD, idsOf, shapeOf, placeAt, markIn}
 use Rattle.desk.specs.Readers.{positionOf, markOf}
-use Rattle.desk.specs.View.{View as Parts, viewOf as partsOf, toPlace}
+use Rattle.desk.specs.Parts.{Parts, partsOf, toPlace}
 use Rattle.desk.proofs.Changed.{Changed, unchanged}
 use Rattle.desk.proofs.Read.{read-position, read-mark}
 use Rattle.desk.proofs.Places.{position-self, position-other, mark-self, mark-other}

@@ -16,10 +16,10 @@ use Rattle.words.proofs.Numbers.{length-bytesOf, number-bytesOf}
 use Rattle.sizes.specs.declared.Sizes.{Sizes}
 use Rattle.sizes.specs.Sizes.{recordLen, slotLen, counterLen, slotsLen, leafLen}
 use Rattle.bags.specs.Bags.{choose, those, AllOf}
-use Rattle.slots.specs.Slots.{Block, blocksBy, blocksOf, isUsed, slotBytes, slotsBytes, AllFit}
+use Rattle.slots.specs.Slots.{Block, blocksBy, blocksOf, isUsed, slotBytes, slotsBytes, AllFit, slotsWith}
 use Rattle.slots.proofs.Numbers.{number-left}
 use Rattle.slots.proofs.Blocks.{length-slot, length-slots, block-slot}
-use Rattle.items.specs.Items.{Means, Sound, counterOf, counterBytes, slotsOf, nonceOf, blocksIn, slotsWith, sealed}
+use Rattle.items.specs.Items.{Means, Sound, counterOf, counterBytes, slotsOf, nonceOf, blocksIn, sealed}
 
 zeros-add : (a b : ℕ) → zeros (a + b) ≡ zeros a ++ zeros b
 zeros-add zero b = rw (zero-add b) refl

@@ -16,12 +16,11 @@ use Rattle.words.proofs.Tests.{byCases}
 use Rattle.sizes.specs.Sizes.{InRange, leaves, mostIds, mostPath, recordLen, slotLen, countLen}
 use Rattle.sizes.proofs.Lengths.{path-most}
 use Rattle.bags.specs.Bags.{bit, cnt}
-use Rattle.slots.specs.Slots.{Block, blocksBy}
+use Rattle.slots.specs.Slots.{Block, blocksBy, Rising}
 use Rattle.desk.specs.declared.Shape.{Shape}
 use Rattle.desk.specs.Layout.{eAt, slotAt, bodyD, bodyE, roomOf, shapeOf}
 use Rattle.desk.specs.Readers.{heightOf, idAsked, statusOf, stashCount, stashId, stashOf}
 use Rattle.desk.specs.Status.{openStatus}
-use Rattle.desk.specs.Stash.{Rising}
 use Rattle.desk.specs.Good.{Good, goodDesk}
 use Rattle.desk.proofs.Known.{known, good-small}
 use Rattle.desk.proofs.Exactly.{good-conditions}

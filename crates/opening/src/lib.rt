@@ -16,6 +16,8 @@ mod table;
 pub use checks::is_worn;
 pub use seek::lookup;
 pub use table::is_marked;
+pub use table::stash_count;
+pub use table::stash_slots;
 
 // The id that was asked for.
 pub fn id_asked(desk: &[u8]) -> usize
@@ -49,7 +51,7 @@ pub fn view(desk: &[u8]) -> View
 }
 
 // A working copy of the path, with the slots of its first `n` items opened.
-fn opened(path: &[u8], v: View, n: usize) -> [u8; 7968]
+fn opened(path: &[u8], v: View, n: usize) -> [u8; Sizes::MOST_PATH]
     requires { ⌜ InRange (v .sizes) × ((length (now path) ≡ pathLen (v .sizes)) × (v .leaf < leaves (v .sizes))) ⌝ }
     requires { ⌜ n ≤ suc (v .sizes .height) ⌝ }
     ensures { λ r. ⌜ Unsealed v (now (path .entry)) n r ⌝ }
@@ -68,7 +70,7 @@ fn opened(path: &[u8], v: View, n: usize) -> [u8; 7968]
 pub struct Opening {
     pub count: usize,
     pub good: bool,
-    pub bytes: [u8; 7968],
+    pub bytes: [u8; Sizes::MOST_PATH],
 }
 
 // Steps 1 and 2, whole.

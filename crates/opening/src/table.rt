@@ -61,7 +61,7 @@ fn slot_good(desk: &[u8], slot: &[u8], seen: &mut [u8], v: View, k: usize) -> bo
     if id == 0 {
         return true;
     }
-    if !is_placed(desk, v, k, id, words::get16(slot, desk::LEAF_IN) as usize) {
+    if !is_placed(desk, v, k, id, words::get16(slot, Sizes::LEAF_IN) as usize) {
         return false;
     }
     if seen[id] != 0 {
@@ -108,7 +108,7 @@ pub fn stash_slots(desk: &[u8]) -> &[u8]
 }
 
 // The ids of the first `n` slots are met.
-fn ids_seen(slots: &[u8], n: usize) -> [u8; 4097]
+fn ids_seen(slots: &[u8], n: usize) -> [u8; TABLE]
     requires { ⌜ slotLen * n ≤ length (now slots) ⌝ }
     requires { ⌜ ((i : ℕ) → i < n → number 2 (now slots) (slotLen * i) ≤ mostIds) ⌝ }
     ensures { λ r. ⌜ Seen r (blocksOf n (now (slots .entry))) ⌝ }

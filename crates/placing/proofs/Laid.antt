@@ -13,13 +13,13 @@ use Rattle.words.specs.Numbers.{number}
 use Rattle.words.proofs.Splice.{length-part, splice-whole, splice-next, splice-nil}
 use Rattle.words.proofs.Numbers.{number-drop}
 use Rattle.words.proofs.Tests.{byCases}
-use Rattle.sizes.specs.Sizes.{recordLen, slotLen}
-use Rattle.slots.specs.Slots.{Block, leafIn, blockBy, blocksOf, slotBytes, slotsBytes, Fits, AllFit, Bytes}
+use Rattle.sizes.specs.Sizes.{recordLen, slotLen, leafIn}
+use Rattle.slots.specs.Slots.{Block, blockBy, blocksOf, slotBytes, slotsBytes, Fits, AllFit, Bytes, slotsWith}
 use Rattle.slots.proofs.Blocks.{slot-block, block-fits, block-at, length-slot, length-slots, length-blocks}
 use Rattle.placing.specs.Ids.{Placeable}
 use Rattle.placing.specs.Walk.{pick}
 use Rattle.placing.specs.Order.{noBlock, blockOf, blocksOn}
-use Rattle.placing.specs.Bank.{idAt, leafAt, blockIn, blocksAt, Inside, slotsWith}
+use Rattle.placing.specs.Bank.{idAt, leafAt, blockIn, blocksAt, Inside}
 use Rattle.placing.proofs.Ordered.{all-at}
 
 -- ---- the block of a slot

@@ -12,10 +12,10 @@ use Rattle.sizes.specs.Sizes.{bucketAt}
 use Rattle.sizes.proofs.Buckets.{child-bucket, side-small}
 use Rattle.bags.specs.Bags.{flat, Same}
 use Rattle.bags.proofs.Perm.{same-perm}
-use Rattle.slots.specs.Slots.{Block}
+use Rattle.slots.specs.Slots.{Block, Rising}
 use Rattle.placing.specs.Filling.{Within}
 use Rattle.placing.specs.Placing.{onWay, levels, placedIn, remaining}
-use Rattle.placing.specs.Ids.{Rising, AllRising}
+use Rattle.placing.specs.Ids.{AllRising}
 use Rattle.placing.proofs.Filling.{buckets-same, buckets-within, bucket-small, Implies, Nested, buckets-optimal}
 use Rattle.placing.proofs.Rising.{sameBlock, same-block, block-same, buckets-rising, rest-rising}
 

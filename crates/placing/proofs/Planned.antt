@@ -8,13 +8,13 @@ use lib.ListN.{length, take, getD}
 use Rattle.words.specs.Bytes.{zeros}
 use Rattle.sizes.specs.declared.Sizes.{Sizes}
 use Rattle.sizes.specs.Sizes.{mostHeight, recordLen, slotLen}
-use Rattle.slots.specs.Slots.{Block, blocksOf}
+use Rattle.slots.specs.Slots.{Block, blocksOf, slotsWith}
 use Rattle.slots.proofs.Blocks.{length-blocks}
 use Rattle.placing.specs.Placing.{sorted, placedIn, remaining}
 use Rattle.placing.specs.Ids.{Placeable}
 use Rattle.placing.specs.Walk.{pick, given, usedIn, mostHeights}
 use Rattle.placing.specs.Order.{order}
-use Rattle.placing.specs.Bank.{mostBlocks, blocksAt, Inside, slotsWith, Planned}
+use Rattle.placing.specs.Bank.{mostBlocks, blocksAt, Inside, Planned}
 use Rattle.placing.proofs.Placing.{placed-small}
 use Rattle.placing.proofs.Given.{bucket-given, rest-given, rest-count}
 use Rattle.placing.proofs.Ordered.{order-sorted, order-length, order-below}

@@ -1,19 +1,14 @@
 -- A bank: slots one behind another, from which blocks are laid into buckets and stash; and what a plan for it says. Assumes nothing.
-use Prim.Native.Nat.{ℕ, _+_, _*_, _-_, _≤_, _<_}
+use Prim.Native.Nat.{ℕ, _+_, _*_, _≤_, _<_}
 use mathlib.Core.Path.{_≡_}
-use mathlib.Core.List.{List, [], _∷_, _++_}
+use mathlib.Core.List.{List, [], _∷_}
 use lib.ListN.{length, take, drop, getD}
-use Rattle.words.specs.Bytes.{zeros}
 use Rattle.words.specs.Numbers.{number}
 use Rattle.sizes.specs.declared.Sizes.{Sizes}
-use Rattle.sizes.specs.Sizes.{mostHeight, mostSlots, recordLen, slotLen}
-use Rattle.slots.specs.Slots.{Block, leafIn, blockBy, slotsBytes}
+use Rattle.sizes.specs.Sizes.{mostHeight, mostSlots, mostRoom, recordLen, slotLen, leafIn}
+use Rattle.slots.specs.Slots.{Block, blockBy}
 use Rattle.placing.specs.Placing.{placedIn, remaining}
 use Rattle.placing.specs.Walk.{pick}
-
--- S is one byte
-abbrev pub mostRoom : ℕ
-mostRoom = 255
 
 -- the most blocks that one finish can meet: the slots of the longest path, the largest stash, and a new one
 abbrev pub mostBlocks : ℕ
@@ -36,11 +31,6 @@ blocksAt bank (p ∷ ps) = blockIn bank p ∷ blocksAt bank ps
 -- the slots at these places lie in the bank
 abbrev pub Inside : List ℕ → List ℕ → Type 0
 Inside bank ps = (i : ℕ) → i < length ps → slotLen * getD ps i 0 + slotLen ≤ length bank
-
--- slots hold blocks, then zeros
--- for slots
-abbrev pub slotsWith : ℕ → List Block → List ℕ
-slotsWith room blocks = slotsBytes blocks ++ zeros (slotLen * (room - length blocks))
 
 -- a plan, in the first `all` entries of two arrays: where each block stands in the bank, and the height of the bucket that it goes to.
 -- Those at a height are the blocks of the bucket there; those above the root remain

@@ -4,10 +4,10 @@ ghost use mathlib.Core.Path.{_≡_};
 ghost use Prim.Native.Nat.{_+_, _*_, _≤_, _<_};
 ghost use lib.ListN.{length, drop};
 ghost use Rattle.words.specs.Bytes.{splice};
-ghost use Rattle.sizes.specs.Sizes.{recordLen, slotLen};
-ghost use Rattle.slots.specs.Slots.{blockBy, slotBytes, slotsBytes};
+ghost use Rattle.sizes.specs.Sizes.{recordLen, slotLen, mostRoom};
+ghost use Rattle.slots.specs.Slots.{blockBy, slotBytes, slotsBytes, slotsWith};
 ghost use Rattle.placing.specs.Walk.{pick};
-ghost use Rattle.placing.specs.Bank.{mostRoom, blocksAt, Inside, slotsWith};
+ghost use Rattle.placing.specs.Bank.{blocksAt, Inside};
 
 pub fn wide(x: u16) -> usize
     ensures { λ r. ⌜ (r ≡ x) × (r < 65536) ⌝ }

@@ -14,10 +14,8 @@ pub mod bank;
 pub mod order;
 pub mod walk;
 
-pub const MOST_ROOM: usize = 255;
-
 // The most blocks that one finish can meet: the slots of the longest path, the largest stash, and a new one.
-pub const MOST_BLOCKS: usize = (Sizes::MOST_HEIGHT + 1) * Sizes::MOST_SLOTS + MOST_ROOM + 1;
+pub const MOST_BLOCKS: usize = (Sizes::MOST_HEIGHT + 1) * Sizes::MOST_SLOTS + Sizes::MOST_ROOM + 1;
 
 // How many blocks there are, and how many of them remain.
 pub struct Counts {

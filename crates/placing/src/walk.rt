@@ -12,8 +12,6 @@ ghost use Rattle.placing.specs.Bank.{mostBlocks, blocksAt, Inside};
 // A height for each level, and one for what remains.
 pub const HEIGHTS: usize = Sizes::MOST_HEIGHT + 2;
 
-pub const LEAF_IN: usize = 2;
-
 // The height of the first bucket, from the leaf up, that lies on the way to leaf `x` and has room; one more than the root's where none has. Two ways
 // have a bucket in common where what is left of their leaves, halved once for each height, is the same.
 fn seek(used: &[usize; HEIGHTS], x: usize, s: Sizes, leaf: usize) -> usize
@@ -45,7 +43,7 @@ pub fn assign(bank: &[u8], places: &[u16], s: Sizes, leaf: usize, at: &mut [u8])
     let mut used = [0usize; HEIGHTS];
     let mut i = 0;
     while i < places.len() {
-        let x = wide(words::get16(bank, Sizes::SLOT * wide(places[i]) + LEAF_IN));
+        let x = wide(words::get16(bank, Sizes::SLOT * wide(places[i]) + Sizes::LEAF_IN));
         let h = seek(&used, x, s, leaf);
         used[h] = used[h] + 1;
         at[i] = h as u8;

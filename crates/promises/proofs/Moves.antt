@@ -22,7 +22,7 @@ use Rattle.desk.specs.Layout.{bAt, cAt, cLen, dAt, eAt, shapeLen, statusAt, wri
 use Rattle.desk.specs.Readers.{sizesOf, heightOf, kindAsked, idAsked, newLeaf, positionOf}
 use Rattle.desk.specs.Status.{readyStatus, atStatus}
 use Rattle.desk.specs.Changes.{withRequest, withPlace, withRoot, withStash, stashBytes}
-use Rattle.desk.specs.View.{viewOf as partsOf, toPlace}
+use Rattle.desk.specs.Parts.{partsOf, toPlace}
 use Rattle.desk.proofs.Known.{known}
 use Rattle.desk.proofs.Changed.{Changed, unchanged, place-changed, same-ids, same-shape}
 use Rattle.desk.proofs.Read.{read-position}

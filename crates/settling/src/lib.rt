@@ -1,4 +1,5 @@
 // Finish, steps 4 and 6, on the desk: what an accepted request leaves there. Each function changes one part and keeps the desk's shape.
+use sizes::Sizes;
 ghost use mathlib.Core.Path.{_≡_};
 ghost use Prim.Native.Nat.{_≤_};
 ghost use lib.ListN.{length};
@@ -35,7 +36,7 @@ pub fn set_stash(desk: &mut [u8], over: usize, h: u8, at: &[u8], places: &[u16],
 }
 
 // The root digest, and root written.
-pub fn set_root(desk: &mut [u8], root: &[u8; 32])
+pub fn set_root(desk: &mut [u8], root: &[u8; Sizes::DIGEST])
     requires { ⌜ Whole (now desk) ⌝ }
     ensures { λ _. ⌜ now (desk .exit) ≡ withRoot (now (root .entry)) (now (desk .entry)) ⌝ }
 {
@@ -64,7 +65,7 @@ pub fn settle(
     at: &[u8],
     places: &[u16],
     bank: &[u8],
-    root: &[u8; 32],
+    root: &[u8; Sizes::DIGEST],
 )
     requires { ⌜ Whole (now desk) × ((1 ≤ id) × (id ≤ idsOf (now desk))) ⌝ }
     requires { ⌜ (over ≤ roomOf (now desk)) × (length (now root) ≡ digestLen) ⌝ }

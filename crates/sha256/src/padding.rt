@@ -1,7 +1,7 @@
 // What follows the whole blocks of a message, section 5.1.1: the bytes left over and the padding, one block or two. And a hash value as bytes.
 ghost use mathlib.Core.Path.{_≡_};
-ghost use Prim.Native.Nat.{ℕ, _+_, _-_, _*_, _%_, _≤_, _<_};
-ghost use mathlib.Core.List.{List, _++_};
+ghost use Prim.Native.Nat.{_+_, _-_, _*_, _%_, _≤_, _<_};
+ghost use mathlib.Core.List.{_++_};
 ghost use lib.ListN.{length, take};
 ghost use Rattle.words.specs.Bytes.{zeros};
 ghost use Rattle.sha2.specs.Sha2.{allBytes, padding};

@@ -1,7 +1,7 @@
 // A hash in the making: bytes go in part by part, so that a caller copies none of them together.
 ghost use mathlib.Core.Path.{_≡_};
 ghost use Prim.Native.Nat.{ℕ, _+_, _*_, _%_, _≤_, _<_};
-ghost use mathlib.Core.List.{List, [], _∷_, _++_};
+ghost use mathlib.Core.List.{List, []};
 ghost use lib.ListN.{length};
 ghost use Rattle.sha2.specs.Sha2.{after};
 ghost use Rattle.sha2.specs.Sha256.{v256, sha256};

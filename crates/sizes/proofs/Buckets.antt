@@ -1,13 +1,13 @@
 -- Buckets on the way to a leaf: each is a child of the one above it, on the leaf's side; two leaves share one exactly if they agree above. Assumes nothing.
-use mathlib.Core.Path.{_≡_, refl, sym, ap, _∙_}
+use mathlib.Core.Path.{_≡_, sym, ap, _∙_}
 use mathlib.Core.Logic.{_↔_}
-use Prim.Native.Nat.{ℕ, zero, suc, _+_, _*_, _-_, _/_, _%_, _^_, _≤_, _<_}
-use native.Mathlib.Nat.{pow-le-pow-right, pow-suc, pow-succ', div-div-eq-div-mul, div-lt-iff-lt-mul, div-eq-of-lt, div-one, sub-zero, sub-self, le-antisymm}
+use Prim.Native.Nat.{ℕ, zero, suc, _+_, _*_, _-_, _/_, _^_, _≤_, _<_}
+use native.Mathlib.Nat.{pow-le-pow-right, pow-suc, pow-succ', div-div-eq-div-mul, div-lt-iff-lt-mul, div-one, sub-self, le-antisymm}
 use native.Mathlib.Omega.{arith}
 use lib.Pow.{pow-add}
 use Rattle.words.proofs.Tests.{below-or}
 use Rattle.sizes.specs.declared.Sizes.{Sizes}
-use Rattle.sizes.specs.Sizes.{leaves, child, bucketNo, placeIn, bucketAt, sideAt, inners, itemLen, bucketLen, bucketCount}
+use Rattle.sizes.specs.Sizes.{leaves, child, placeIn, bucketAt, sideAt, inners, itemLen, bucketLen, bucketCount}
 use Rattle.sizes.proofs.Lengths.{inner-item, leaf-item, inner-bucket, leaf-bucket, leaves-pos}
 
 pub pow-pos : (k : ℕ) → 1 ≤ 2 ^ k

@@ -1,6 +1,5 @@
 -- Sizes: the server's side follows from the height L and the slots of a bucket Z alone; the desk's length from N and S. Assumes nothing.
 use Prim.Native.Nat.{ℕ, suc, _+_, _*_, _-_, _/_, _%_, _^_, _≤_}
-use mathlib.Core.Path.{_≡_}
 use mathlib.Core.Bool.{Bool, cond, _&&_}
 use mathlib.Core.List.{List}
 use lib.Dec.{ltb, leb}
@@ -17,6 +16,10 @@ mostHeight = 12
 
 abbrev pub mostSlots : ℕ
 mostSlots = 8
+
+-- S is one byte
+abbrev pub mostRoom : ℕ
+mostRoom = 255
 
 abbrev pub mostIds : ℕ
 mostIds = 4096
@@ -46,6 +49,9 @@ recordLen = 64
 
 abbrev pub slotHead : ℕ
 slotHead = 4
+
+abbrev pub leafIn : ℕ
+leafIn = 2
 
 abbrev pub slotLen : ℕ
 slotLen = slotHead + recordLen

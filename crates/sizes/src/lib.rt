@@ -62,6 +62,8 @@ impl Sizes {
 
     pub const MOST_SLOTS: usize = 8;
 
+    pub const MOST_ROOM: usize = 255;
+
     pub const MOST_IDS: usize = 4096;
 
     pub const MOST_PATH: usize = 7968;
@@ -69,6 +71,9 @@ impl Sizes {
     pub const RECORD: usize = 64;
 
     pub const SLOT_HEAD: usize = 4;
+
+    // Where the leaf stands in a slot, behind the id.
+    pub const LEAF_IN: usize = 2;
 
     pub const SLOT: usize = Self::SLOT_HEAD + Self::RECORD;
 

@@ -10,8 +10,8 @@ use Rattle.words.specs.Bytes.{part}
 use Rattle.words.specs.Numbers.{number, bytesOf}
 use Rattle.words.proofs.Splice.{part-part, part-add, part-right, length-part}
 use Rattle.words.proofs.Numbers.{number-part, number-drop, number-bytesOf, length-bytesOf}
-use Rattle.sizes.specs.Sizes.{slotHead}
-use Rattle.slots.specs.Slots.{Block, slotBy, leafIn, blockBy, blocksBy, slotBytes, slotsBytes, Fits, AllFit, Bytes}
+use Rattle.sizes.specs.Sizes.{slotHead, leafIn}
+use Rattle.slots.specs.Slots.{Block, slotBy, blockBy, blocksBy, slotBytes, slotsBytes, Fits, AllFit, Bytes}
 use Rattle.slots.proofs.Numbers.{number-small, bytesOf-number, number-left, number-right}
 
 -- ---- lengths

@@ -1,26 +1,23 @@
 -- Slots: id 2, leaf 2, record. The block that a slot shows, the slot of a block, and the same of several, one behind the other.
 -- Records have r bytes here; `blocksOf` is at the paper's length. Assumes nothing.
-use Prim.Native.Nat.{ℕ, zero, suc, _+_, _<_}
+use Prim.Native.Nat.{ℕ, zero, suc, _+_, _*_, _-_, _<_}
 use mathlib.Core.Path.{_≡_}
 use mathlib.Core.Bool.{Bool, not}
 use mathlib.Core.List.{List, [], _∷_, _++_}
 use lib.ListN.{length, drop, getD}
 use lib.Dec.{eqb}
-use Rattle.words.specs.Bytes.{part}
+use Rattle.words.specs.Bytes.{part, zeros}
 use Rattle.words.specs.Numbers.{number, bytesOf}
-use Rattle.sizes.specs.Sizes.{recordLen, slotHead}
+use Rattle.sizes.specs.Sizes.{recordLen, slotHead, slotLen, leafIn}
 
 pub record Block : Type 0 where
   pub id : ℕ
   pub leaf : ℕ
   pub bytes : List ℕ
 
--- the length of a slot; where its leaf stands
+-- the length of a slot
 abbrev pub slotBy : ℕ → ℕ
 slotBy r = slotHead + r
-
-abbrev pub leafIn : ℕ
-leafIn = 2
 
 -- the block that the slot at the head of a list shows
 abbrev pub blockBy : ℕ → List ℕ → Block
@@ -45,6 +42,15 @@ slotBytes b = bytesOf 2 (b .id) ++ (bytesOf 2 (b .leaf) ++ b .bytes)
 unfoldable pub slotsBytes : List Block → List ℕ
 slotsBytes [] = []
 slotsBytes (b ∷ bs) = slotBytes b ++ slotsBytes bs
+
+-- as many slots as there is room for: those of the blocks, then zeros
+abbrev pub slotsWith : ℕ → List Block → List ℕ
+slotsWith room blocks = slotsBytes blocks ++ zeros (slotLen * (room - length blocks))
+
+-- blocks by rising id, all above a number
+abbrev pub Rising : ℕ → List Block → Type 0
+Rising last [] = Unit
+Rising last (b ∷ bs) = (last < b .id) × Rising (b .id) bs
 
 -- blocks that slots can hold
 pub record Fits (r : ℕ) (b : Block) : Type 0 where

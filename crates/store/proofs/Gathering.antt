@@ -1,8 +1,8 @@
 -- What the code gathers, plans and writes is what the paper gathers, places and writes. Assumes nothing.
-use Prim.Native.Nat.{ℕ, zero, suc, _+_, _≤_, _<_}
+use Prim.Native.Nat.{ℕ, suc, _+_, _≤_}
 use mathlib.Core.Path.{_≡_, refl, sym, ap, subst, _∙_}
 use mathlib.Core.Bool.{Bool, true, false}
-use mathlib.Core.List.{List, [], _++_}
+use mathlib.Core.List.{List, _++_}
 use lib.ListN.{length, take}
 use Rattle.sizes.specs.declared.Sizes.{Sizes}
 use Rattle.bags.specs.Bags.{those}
@@ -15,7 +15,6 @@ use Rattle.items.specs.Way.{Reached}
 use Rattle.items.specs.Real.{real}
 use Rattle.items.proofs.Fields.{slots-of}
 use Rattle.placing.specs.Placing.{sorted, placedIn}
-use Rattle.placing.specs.Walk.{pick}
 use Rattle.placing.specs.Bank.{blocksAt, Planned}
 use Rattle.placing.proofs.Planned.{bucket-fits}
 use Rattle.placing.proofs.Laid.{fit-at, pick-fit}

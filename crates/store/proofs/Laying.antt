@@ -1,7 +1,7 @@
 -- One level more is laid, and the levels before it stay. Assumes nothing.
 use mathlib.Core.Path.{_≡_, sym, ap, ap₂, subst, _∙_}
 use mathlib.Core.List.{List}
-use Prim.Native.Nat.{ℕ, suc, _+_, _*_, _-_, _≤_, _<_}
+use Prim.Native.Nat.{ℕ, _+_, _*_, _-_, _≤_}
 use native.Mathlib.Omega.{arith}
 use lib.ListN.{length, length-append}
 use Rattle.words.specs.Bytes.{part, splice, zeros}
@@ -10,9 +10,9 @@ use Rattle.words.proofs.Tests.{below-or}
 use Rattle.sizes.specs.declared.Sizes.{Sizes}
 use Rattle.sizes.specs.Sizes.{recordLen, slotLen, counterLen, slotsLen, leafLen, innerLen, itemAt, itemOf, pathLen}
 use Rattle.sizes.proofs.Lengths.{level-below, level-fits}
-use Rattle.slots.specs.Slots.{Block, AllFit, slotsBytes}
+use Rattle.slots.specs.Slots.{Block, AllFit, slotsBytes, slotsWith}
 use Rattle.slots.proofs.Blocks.{length-slots}
-use Rattle.items.specs.Items.{slotsOf, slotsWith}
+use Rattle.items.specs.Items.{slotsOf}
 use Rattle.items.proofs.Fields.{slots-of}
 use Rattle.placing.specs.Walk.{pick}
 use Rattle.store.specs.Laying.{Laid}

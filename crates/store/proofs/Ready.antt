@@ -1,11 +1,10 @@
 -- Where steps 3 to 6 start, what is gathered can be arranged, and the plan is the one of the paper. Assumes nothing.
-use Prim.Native.Nat.{ℕ, suc, _+_, _≤_, _<_}
+use Prim.Native.Nat.{ℕ, _+_}
 use mathlib.Core.Path.{_≡_, refl, sym, ap, subst, _∙_}
 use mathlib.Core.Bool.{Bool, true, false}
 use mathlib.Core.List.{List}
 use native.Mathlib.Omega.{arith}
 use lib.ListN.{length}
-use Rattle.words.specs.Bytes.{part}
 use Rattle.words.proofs.Splice.{length-part}
 use Rattle.sizes.specs.declared.Sizes.{Sizes}
 use Rattle.sizes.specs.Sizes.{recordLen, requestHead, pathLen}
@@ -14,7 +13,7 @@ use Rattle.slots.specs.Slots.{Block}
 use Rattle.desk.specs.declared.Kind.{Kind}
 use Rattle.desk.specs.declared.Kind.the-variants.{Read, Write}
 use Rattle.desk.specs.Layout.{cAt, shapeOf, idsOf}
-use Rattle.desk.specs.Readers.{sizesOf, kindAsked, recordAsked, leafAsked, stashCount}
+use Rattle.desk.specs.Readers.{sizesOf, kindAsked, recordAsked, stashCount}
 use Rattle.items.specs.declared.View.{View}
 use Rattle.items.specs.Way.{Reached}
 use Rattle.items.specs.Real.{real}
@@ -23,7 +22,7 @@ use Rattle.placing.specs.Ids.{Placeable}
 use Rattle.placing.specs.Bank.{Planned}
 use Rattle.gathering.specs.declared.Request.{Request}
 use Rattle.gathering.specs.Gathering as gathering
-use Rattle.opening.specs.Opening.{viewOf, stashSlots, gathered}
+use Rattle.opening.specs.Opening.{stashSlots}
 use Rattle.opening.specs.Walk.{Unsealed}
 use Rattle.opening.proofs.Genuine.{genuine-checks}
 use Rattle.opening.proofs.Open.{stash-room}

@@ -1,6 +1,6 @@
 -- The result of a finish, by the rows that apply: what each return of the code leaves is what the paper says. Assumes nothing.
 use Prim.Native.Nat.{ℕ, _≤_, _<_}
-use mathlib.Core.Path.{_≡_, refl, sym, ap, subst, _∙_}
+use mathlib.Core.Path.{_≡_, refl, sym, ap, _∙_}
 use mathlib.Core.Bool.{Bool, true, false, cond, not}
 use mathlib.Core.List.{List, [], _∷_, _++_}
 use native.Mathlib.Omega.{arith}
@@ -9,7 +9,7 @@ use lib.Dec.{ltb, eqb}
 use borrow.Author.Tests.{leb-false, eqb-true, eqb-false, not-false}
 use Rattle.words.proofs.Tests.{each}
 use Rattle.sizes.specs.declared.Refusal.{Refusal}
-use Rattle.sizes.specs.declared.Refusal.the-variants.{BadDesk, Stopped, NotOpen, BadLength, Forged, Worn, Full}
+use Rattle.sizes.specs.declared.Refusal.the-variants.{Forged, Worn, Full}
 use Rattle.sizes.specs.declared.Outcome.{Outcome}
 use Rattle.sizes.specs.declared.Outcome.the-variants.{Done, Refused}
 use Rattle.sizes.specs.Sizes.{leaves, recordLen, pathLen}
@@ -17,7 +17,7 @@ use Rattle.sizes.specs.Refusals.{firstOf, NoneOf}
 use Rattle.sizes.proofs.Rows.{not-refused, none-applies}
 use Rattle.desk.specs.Layout.{statusAt, roomOf}
 use Rattle.desk.specs.Readers.{statusOf, sizesOf, kindAsked, newLeaf}
-use Rattle.desk.specs.Status.{forgedStatus, wornStatus, fullStatus, atStatus, stopped}
+use Rattle.desk.specs.Status.{forgedStatus, wornStatus, fullStatus, atStatus}
 use Rattle.desk.specs.Good.{goodDesk}
 use Rattle.desk.proofs.Exactly.{good-conditions}
 use Rattle.desk.proofs.Refused.{spared}
@@ -30,7 +30,7 @@ use Rattle.opening.proofs.Open.{good-open}
 use Rattle.store.specs.declared.Finished.{Finished}
 use Rattle.store.specs.declared.Finished.the-variants as finished
 use Rattle.store.specs.Steps.{answerFor, bufferFor, wasMarked, recordFound, toPlace, newStash, newPath, newDesk}
-use Rattle.store.specs.Finish.{entryRows, pathRows, fullRows, finishRows, finishChecked, result, finishBy, finishOf}
+use Rattle.store.specs.Finish.{entryRows, pathRows, fullRows, finishChecked, result, finishBy, finishOf}
 
 module _ (desk path : List ℕ) where
   pub over-is : (v : View) (over : ℕ) → v ≡ viewOf desk → over ≡ length (remaining (v .sizes) (v .leaf) (toPlace real desk path)) → over ≡ length (newStash real desk path)

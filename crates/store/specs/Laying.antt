@@ -5,9 +5,9 @@ use mathlib.Core.List.{List, []}
 use lib.ListN.{length, getD}
 use Rattle.sizes.specs.declared.Sizes.{Sizes}
 use Rattle.sizes.specs.Sizes.{itemOf}
-use Rattle.slots.specs.Slots.{Block}
+use Rattle.slots.specs.Slots.{Block, slotsWith}
 use Rattle.items.specs.declared.View.{View}
-use Rattle.items.specs.Items.{slotsOf, slotsWith}
+use Rattle.items.specs.Items.{slotsOf}
 use Rattle.items.specs.Real.{real}
 use Rattle.writing.specs.Writing.{pathWritten, rootWritten}
 use Rattle.settling.specs.Settling.{Held, settled}

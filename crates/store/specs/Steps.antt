@@ -1,6 +1,6 @@
 -- Finish, steps 3 to 6: the answer, the blocks to place, the new path and the new desk. Assumes nothing.
 use Prim.Native.Nat.{ℕ}
-use mathlib.Core.Bool.{Bool, true, false, cond, not}
+use mathlib.Core.Bool.{Bool, true, false, not}
 use mathlib.Core.List.{List, [], _∷_, _++_}
 use Rattle.words.specs.Bytes.{zeros}
 use Rattle.bags.specs.Bags.{those}

@@ -24,7 +24,6 @@ ghost use Rattle.store.specs.Laying.{Laid, Writable, Accepted};
 
 mod plan;
 mod request;
-mod stash;
 
 // What a finish answers. A record goes to the lent buffer.
 pub enum Finished {

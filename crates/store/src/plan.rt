@@ -1,6 +1,5 @@
 // Steps 3 and 5: the plan for the blocks of path and stash, the requested one under its new leaf with the record that it carries on.
 use crate::request;
-use crate::stash;
 use desk::Kind;
 use gathering::Request;
 use items::View;
@@ -9,12 +8,11 @@ use sizes::Sizes;
 ghost use mathlib.Core.Path.{_≡_};
 ghost use Prim.Native.Nat.{_*_};
 ghost use lib.ListN.{length};
-ghost use Rattle.sizes.specs.Sizes.{slotLen, recordLen};
+ghost use Rattle.sizes.specs.Sizes.{slotLen};
 ghost use Rattle.desk.specs.Readers.{kindAsked, idAsked, isMarked};
 ghost use Rattle.items.specs.Real.{real};
 ghost use Rattle.placing.specs.Bank.{mostBlocks, Planned};
 ghost use Rattle.store.specs.Steps.{toPlace};
-ghost use Rattle.store.specs.Carried.{carriedOn};
 ghost use Rattle.store.specs.Ready.{Ready};
 ghost use Rattle.store.specs.Ready as ready;
 
@@ -61,8 +59,8 @@ pub fn plan(
 {
     let r = request_of(desk, path, w, v, n, kind, marked);
     let ids = desk::shape_of(desk).n;
-    let count = stash::count(desk);
-    let slots = stash::slots(desk);
+    let count = opening::stash_count(desk);
+    let slots = opening::stash_slots(desk);
     gathering::arrange(
         bank,
         places,
@@ -88,7 +86,7 @@ pub fn record_carried<'a>(
     n: usize,
     kind: Kind,
     marked: bool,
-) -> [u8; 64]
+) -> [u8; Sizes::RECORD]
     requires { ⌜ Ready (now desk) (now path) v n (now w) ⌝ }
     requires { ⌜ (kind ≡ kindAsked (now desk)) × (marked ≡ isMarked (now desk) (idAsked (now desk))) ⌝ }
     ensures { λ r. ⌜ r ≡ ready.carriedOf (now (desk .entry)) (now (path .entry)) ⌝ }

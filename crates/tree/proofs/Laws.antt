@@ -1,14 +1,14 @@
 -- Fetch and put: fetch after put gives the path back, put after fetch changes nothing, put leaves every bucket off the way as it was. Assumes nothing.
 use mathlib.Core.Path.{_≡_, refl, sym, ap, _∙_}
-use mathlib.Core.List.{List, [], _∷_, _++_}
+use mathlib.Core.List.{List}
 use Prim.Native.Nat.{ℕ, zero, suc, _+_, _≤_, _<_}
 use native.Mathlib.Omega.{arith}
 use lib.ListN.{length, length-append}
-use Rattle.words.specs.Bytes.{part, splice}
+use Rattle.words.specs.Bytes.{part}
 use Rattle.words.proofs.Splice.{length-part, length-splice, part-splice, part-splice-before, part-splice-after, part-left, part-right, part-whole, splice-part}
 use Rattle.words.proofs.Tests.{below-or}
 use Rattle.sizes.specs.declared.Sizes.{Sizes}
-use Rattle.sizes.specs.Sizes.{InRange, leaves, leafLen, innerLen, itemLen, itemAt, itemOf, pathLen, bucketAt, treeAt, treeLen, bucketLen, bucketIn, bucketCount}
+use Rattle.sizes.specs.Sizes.{leaves, itemLen, itemAt, itemOf, pathLen, bucketAt, treeAt, treeLen, bucketLen, bucketIn, bucketCount}
 use Rattle.sizes.proofs.Lengths.{itemsTo, items-fill, inner-item, leaf-item, next-item, item-fits, items-apart, buckets-apart, bucket-fits}
 use Rattle.sizes.proofs.Buckets.{item-bucket, bucket-below, levels-apart}
 use Rattle.tree.specs.Tree.{Fits, itemIn, fetched, putBack, TreeResult, fetchOf, putOf}

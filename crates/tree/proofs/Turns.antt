@@ -1,15 +1,14 @@
 -- One turn of each copying loop, and the end of the one that fetches. Assumes nothing.
-use mathlib.Core.Path.{_≡_, refl, sym, ap, _∙_}
+use mathlib.Core.Path.{_≡_, sym, ap, _∙_}
 use mathlib.Core.List.{List}
-use Prim.Native.Nat.{ℕ, zero, suc, _+_, _-_, _≤_, _<_}
-use native.Mathlib.Nat.{zero-add}
+use Prim.Native.Nat.{ℕ, suc, _+_, _-_, _≤_}
 use native.Mathlib.Numerals.{add-one}
 use native.Mathlib.Omega.{arith}
 use lib.ListN.{length}
 use Rattle.words.specs.Bytes.{part, splice}
 use Rattle.words.proofs.Splice.{splice-next, splice-whole}
 use Rattle.sizes.specs.declared.Sizes.{Sizes}
-use Rattle.sizes.specs.Sizes.{leaves, itemLen, itemAt, itemOf, pathLen, bucketAt, treeAt, treeLen}
+use Rattle.sizes.specs.Sizes.{itemLen, itemAt, bucketAt, treeAt}
 use Rattle.sizes.proofs.Lengths.{item-fits}
 use Rattle.tree.specs.Tree.{Fits, itemIn, fetched, putBack}
 use Rattle.tree.proofs.Laws.{length-fetched, length-whole}

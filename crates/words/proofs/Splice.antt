@@ -6,7 +6,7 @@ use native.Mathlib.Nat.{zero-add, add-zero, sub-zero, suc-add}
 use native.Mathlib.Numerals.{add-one}
 use native.Mathlib.Omega.{arith}
 use lib.ListN.{length, set, take, drop, getD, length-append, length-take, length-drop, length-replicate, take-append-drop, drop-of-length-le}
-use lib.Seq.{length-take-le, take-at, drop-at, take-append-le, take-append-add, drop-append-le, drop-append-add, take-take, drop-drop, getD-take, getD-drop, take-nil, take-all, take-suc, drop-cons, take-add, set-at, ext-getD, sets, sets-eq}
+use lib.Seq.{length-take-le, take-at, drop-at, take-append-le, take-append-add, drop-append-le, drop-append-add, take-take, drop-drop, getD-take, getD-drop, take-nil, take-all, take-suc, drop-cons, take-add, ext-getD, sets, sets-eq}
 use Rattle.words.specs.Bytes.{part, splice, zeros}
 
 -- ---- part

@@ -1,27 +1,27 @@
 -- One turn of the loop from the leaf up: what lies below is as it was, so the item is the one that step 6 makes of the path as it was lent. Assumes nothing.
 use mathlib.Core.Path.{_≡_, refl, sym, ap, ap₂, _∙_}
 use mathlib.Core.Bool.{Bool, true, false, cond, _&&_}
-use mathlib.Core.List.{List, [], _∷_, _++_, append-nil, append-assoc}
+use mathlib.Core.List.{List, [], _∷_, _++_}
 use Prim.Native.Nat.{ℕ, zero, suc, _+_, _*_, _-_, _≤_, _<_}
 use native.Mathlib.Nat.{zero-add}
 use native.Mathlib.Omega.{arith}
-use lib.ListN.{length, getD, take, drop, length-append, drop-of-length-le}
-use lib.Seq.{take-take, take-at, drop-at, length-take-le, drop-drop}
+use lib.ListN.{length, take, length-append}
+use lib.Seq.{take-take}
 use lib.Dec.{ltb, eqb}
 use borrow.Author.Tests.{lt-ltb, le-ltb}
-use Rattle.words.specs.Bytes.{part, splice, zeros}
-use Rattle.words.proofs.Splice.{part-part, length-part, length-zeros, take-splice}
-use Rattle.words.proofs.Tests.{byCases, below-or}
+use Rattle.words.specs.Bytes.{part, zeros}
+use Rattle.words.proofs.Splice.{part-part, length-part, length-zeros}
+use Rattle.words.proofs.Tests.{below-or}
 use Rattle.sizes.specs.declared.Sizes.{Sizes}
-use Rattle.sizes.specs.Sizes.{digestLen, leafLen, innerLen, itemLen, itemAt, itemOf, pathLen, slotsLen}
-use Rattle.sizes.proofs.Lengths.{inner-item, leaf-item, next-item, level-fits, level-below}
+use Rattle.sizes.specs.Sizes.{digestLen, leafLen, innerLen, itemLen, itemAt, pathLen}
+use Rattle.sizes.proofs.Lengths.{inner-item, leaf-item, next-item, level-below}
 use Rattle.slots.specs.Slots.{Block}
 use Rattle.items.specs.declared.View.{View}
-use Rattle.items.specs.Items.{counterOf, flagOf, digestOf, slotsOf, itemDigest, sealed}
-use Rattle.items.specs.Way.{item, bucket, side, reachable}
+use Rattle.items.specs.Items.{flagOf, digestOf, slotsOf, sealed}
+use Rattle.items.specs.Way.{item, side, reachable}
 use Rattle.items.specs.Real.{real}
-use Rattle.writing.specs.Writing.{newCounter, newHead, newFlag, newDigest, isKept, newInner, written, pathWritten, rootWritten}
-use Rattle.writing.specs.Pieces.{headOf, linksOf, itemWritten, restOf, Holds, Climbed, WrittenBy}
+use Rattle.writing.specs.Writing.{newCounter, newHead, newFlag, newDigest, isKept}
+use Rattle.writing.specs.Pieces.{headOf, linksOf, itemWritten, Holds}
 use Rattle.writing.proofs.Heads.{length-head, length-slots-of}
 
 -- ---- paths that agree below a level

@@ -1,7 +1,7 @@
 -- Counter and slots of an item: written plain, then under the cipher, they are the head that step 6 says. Assumes nothing.
-use mathlib.Core.Path.{_≡_, refl, sym, ap, ap₂, _∙_}
-use mathlib.Core.List.{List, [], _∷_, _++_}
-use Prim.Native.Nat.{ℕ, _+_, _*_, _-_, _/_, _%_, _^_, _≤_, _<_}
+use mathlib.Core.Path.{_≡_, sym, ap, ap₂, _∙_}
+use mathlib.Core.List.{List, _++_}
+use Prim.Native.Nat.{ℕ, _+_, _*_, _-_, _/_, _%_, _^_, _≤_}
 use native.Mathlib.Nat.{div-add-mod'}
 use native.Mathlib.Omega.{arith}
 use lib.ListN.{length, length-append}
@@ -10,10 +10,10 @@ use Rattle.words.specs.Numbers.{bytesOf}
 use Rattle.words.proofs.Splice.{length-part, length-splice, part-splice, part-splice-before, splice-splice, splice-next}
 use Rattle.words.proofs.Numbers.{length-bytesOf, bytesOf-wrap}
 use Rattle.sizes.specs.declared.Sizes.{Sizes}
-use Rattle.sizes.specs.Sizes.{counterLen, leafLen, slotsLen, itemAt, itemOf, pathLen}
+use Rattle.sizes.specs.Sizes.{counterLen, leafLen, slotsLen, itemAt, pathLen}
 use Rattle.sizes.proofs.Lengths.{level-fits}
 use Rattle.items.specs.declared.View.{View}
-use Rattle.items.specs.Items.{Means, nonceOf, counterBytes, slotsOf, slotsOpened}
+use Rattle.items.specs.Items.{nonceOf, counterBytes, slotsOf, slotsOpened}
 use Rattle.items.specs.Way.{item, bucket}
 use Rattle.items.specs.Real.{real}
 use Rattle.items.proofs.Fields.{counter-bytes, slots-of}

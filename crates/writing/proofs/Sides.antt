@@ -1,12 +1,12 @@
 -- Flags and digests of an inner item: laid into zeros side by side. Assumes nothing.
-use mathlib.Core.Path.{_≡_, refl, sym, ap, _∙_}
+use mathlib.Core.Path.{_≡_, ap, _∙_}
 use mathlib.Core.Bool.{true, false}
 use mathlib.Core.List.{List, [], _∷_, _++_, append-nil}
 use Prim.Native.Nat.{ℕ, zero, suc, _+_, _*_, _-_, _≤_}
 use native.Mathlib.Omega.{arith}
 use lib.ListN.{length, set, take, drop, length-append, drop-of-length-le}
 use lib.Seq.{take-at}
-use Rattle.words.specs.Bytes.{part, splice, zeros}
+use Rattle.words.specs.Bytes.{splice, zeros}
 use Rattle.sizes.specs.Sizes.{digestLen, flagsLen}
 use Rattle.items.specs.declared.View.{View}
 use Rattle.items.specs.Items.{digestOf}

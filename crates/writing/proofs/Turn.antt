@@ -1,25 +1,22 @@
 -- The loop from the leaf up: where it begins, one turn, and where it ends. Assumes nothing.
 use mathlib.Core.Path.{_≡_, refl, sym, ap, ap₂, _∙_}
-use mathlib.Core.List.{List, [], _∷_, _++_, append-nil}
-use Prim.Native.Nat.{ℕ, zero, suc, _+_, _*_, _-_, _≤_, _<_}
-use native.Mathlib.Nat.{sub-zero}
+use mathlib.Core.List.{List, [], _++_, append-nil}
+use Prim.Native.Nat.{ℕ, suc, _+_, _-_, _≤_}
 use native.Mathlib.Omega.{arith}
-use lib.ListN.{length, getD, take, drop, drop-of-length-le}
+use lib.ListN.{length, take, drop, drop-of-length-le}
 use lib.Seq.{take-at, drop-at, length-take-le}
-use borrow.Author.Tests.{lt-ltb, le-ltb}
-use Rattle.words.specs.Bytes.{part, splice}
+use Rattle.words.specs.Bytes.{splice}
 use Rattle.words.proofs.Splice.{take-splice}
 use Rattle.words.proofs.Tests.{below-or}
 use Rattle.sizes.specs.declared.Sizes.{Sizes}
-use Rattle.sizes.specs.Sizes.{digestLen, leafLen, innerLen, itemLen, itemAt, itemOf, pathLen}
-use Rattle.sizes.proofs.Lengths.{inner-item, leaf-item, next-item, level-fits, level-below, item-fits}
+use Rattle.sizes.specs.Sizes.{digestLen, itemLen, itemAt, itemOf, pathLen}
+use Rattle.sizes.proofs.Lengths.{inner-item, leaf-item, next-item, level-fits}
 use Rattle.slots.specs.Slots.{Block}
 use Rattle.items.specs.declared.View.{View}
-use Rattle.items.specs.Items.{slotsOf, itemDigest}
-use Rattle.items.specs.Way.{item}
+use Rattle.items.specs.Items.{itemDigest}
 use Rattle.items.specs.Real.{real}
-use Rattle.writing.specs.Writing.{newCounter, newHead, newInner, written, Written, pathWritten, rootWritten}
-use Rattle.writing.specs.Pieces.{headOf, linksOf, itemWritten, restOf, Holds, Climbed, WrittenBy}
+use Rattle.writing.specs.Writing.{newHead, newInner, written}
+use Rattle.writing.specs.Pieces.{linksOf, itemWritten, restOf, Holds, Climbed, WrittenBy}
 use Rattle.writing.proofs.Climb.{take-less, length-item, head-same, links-same, inner-tail, leaf-tail}
 
 -- behind what is laid in

@@ -7,9 +7,9 @@ use lib.ListN.{getD, take, drop}
 use lib.Dec.{ltb}
 use Rattle.words.specs.Numbers.{bytesOf}
 use Rattle.sizes.specs.Sizes.{counterLen, itemAt}
-use Rattle.slots.specs.Slots.{Block}
+use Rattle.slots.specs.Slots.{Block, slotsWith}
 use Rattle.items.specs.declared.View.{View}
-use Rattle.items.specs.Items.{Means, nonceOf, slotsOf, slotsWith, itemDigest}
+use Rattle.items.specs.Items.{Means, nonceOf, slotsOf, itemDigest}
 use Rattle.items.specs.Way.{item, bucket}
 use Rattle.items.specs.Real.{real}
 use Rattle.writing.specs.Writing.{newCounter, newFlag, newDigest, written, pathWritten, rootWritten}

@@ -47,7 +47,7 @@ fn write_head(path: &mut [u8], new: &[u8], v: View, n: usize, k: usize)
 
 // Flags and digests of the inner item at level `k`: the child on the path has flag 1 and its new digest; the sibling keeps both if this item was
 // reachable and the flag was 1, else both are zero.
-fn links(path: &[u8], v: View, n: usize, k: usize, d: &[u8; 32]) -> [u8; LINKS]
+fn links(path: &[u8], v: View, n: usize, k: usize, d: &[u8; Sizes::DIGEST]) -> [u8; LINKS]
     requires { ⌜ Carries (v .sizes) (now path) × ((k < v .sizes .height) × (reachable v (now path) k ≡ ltb k n)) ⌝ }
     requires { ⌜ length (now d) ≡ digestLen ⌝ }
     ensures { λ r. ⌜ r ≡ linksOf v (now (path .entry)) k (now (d .entry)) ⌝ }
@@ -70,7 +70,7 @@ fn links(path: &[u8], v: View, n: usize, k: usize, d: &[u8; 32]) -> [u8; LINKS]
 }
 
 // The inner item at level `k`, above a child of digest `d`.
-fn write_inner(path: &mut [u8], new: &[u8], v: View, n: usize, k: usize, d: &[u8; 32])
+fn write_inner(path: &mut [u8], new: &[u8], v: View, n: usize, k: usize, d: &[u8; Sizes::DIGEST])
     requires { ⌜ Carries (v .sizes) (now path) × Carries (v .sizes) (now new) ⌝ }
     requires { ⌜ (k < v .sizes .height) × ((v .leaf < leaves (v .sizes)) × (reachable v (now path) k ≡ ltb k n)) ⌝ }
     requires { ⌜ length (now d) ≡ digestLen ⌝ }
@@ -82,7 +82,7 @@ fn write_inner(path: &mut [u8], new: &[u8], v: View, n: usize, k: usize, d: &[u8
 }
 
 // The item at level `k`, above a child of digest `d` if it is an inner one.
-fn write_item(path: &mut [u8], new: &[u8], v: View, n: usize, k: usize, d: &[u8; 32])
+fn write_item(path: &mut [u8], new: &[u8], v: View, n: usize, k: usize, d: &[u8; Sizes::DIGEST])
     requires { ⌜ Carries (v .sizes) (now path) × Carries (v .sizes) (now new) ⌝ }
     requires { ⌜ (k ≤ v .sizes .height) × ((v .leaf < leaves (v .sizes)) × (reachable v (now path) k ≡ ltb k n)) ⌝ }
     requires { ⌜ length (now d) ≡ digestLen ⌝ }
@@ -97,13 +97,13 @@ fn write_item(path: &mut [u8], new: &[u8], v: View, n: usize, k: usize, d: &[u8;
 }
 
 // The whole path, from the leaf up; the result is the new root digest.
-pub fn write_path(path: &mut [u8], new: &[u8], v: View, n: usize) -> [u8; 32]
+pub fn write_path(path: &mut [u8], new: &[u8], v: View, n: usize) -> [u8; Sizes::DIGEST]
     requires { ⌜ Carries (v .sizes) (now path) × (length (now path) ≡ pathLen (v .sizes)) ⌝ }
     requires { ⌜ Carries (v .sizes) (now new) × ((v .leaf < leaves (v .sizes)) × Reached v (now path) n) ⌝ }
     ensures { λ r. ⌜ WrittenBy v (now (path .entry)) (now (new .entry)) (now (path .exit)) r ⌝ }
 {
     let s = v.sizes;
-    let mut d = [0u8; 32];
+    let mut d = [0u8; Sizes::DIGEST];
     let mut k = s.height + 1;
     while 0 < k {
         k -= 1;

@@ -1,9 +1,7 @@
 -- `exports::asked` meets its contract: a leaf has 16 bits, so that it fits as it is. Assumes nothing.
-use mathlib.Core.Path.{_≡_, sym, ap, _∙_, subst}
-use Prim.Native.Nat.{ℕ, _^_, _<_}
-use lib.IntN.{ℤ, pos}
+use mathlib.Core.Path.{sym, ap, _∙_}
+use Prim.Native.Nat.{_^_, _<_}
 use mir.Syntax.{w32}
-use mir.Val.{SFits}
 use mir.Facts.{toZ-pos}
 use Rattle.exports.specs.Codes.{askedCode}
 use Rattle.exports.proofs.Signed.{code-back, refusal-fits, plus-fits}

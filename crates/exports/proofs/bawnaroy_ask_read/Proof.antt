@@ -1,5 +1,5 @@
 -- `exports::bawnaroy_ask_read` meets its contract: it is `asks::ask`'s, and its answer's number. Assumes nothing.
-use mathlib.Core.Path.{_≡_, ap, _∙_}
+use mathlib.Core.Path.{ap, _∙_}
 use Rattle.asks.specs.Ask.{AskResult}
 use Rattle.exports.specs.Codes.{askedCode}
 use Rattle.exports.proofs.Signed.{back}

@@ -1,5 +1,5 @@
 -- `exports::bawnaroy_desk_length` meets its contract: the layout's own length, by whether N is in range. Assumes nothing.
-use mathlib.Core.Path.{_≡_, sym, ap, _∙_}
+use mathlib.Core.Path.{_≡_, sym, _∙_}
 use native.Mathlib.Omega.{arith}
 use borrow.Author.Tests.{not-true, not-false}
 use mathlib.Core.Bool.{true}

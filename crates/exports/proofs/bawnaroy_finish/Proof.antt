@@ -1,5 +1,5 @@
 -- `exports::bawnaroy_finish` meets its contract: it is `store::finish`'s, and its answer's number. Assumes nothing.
-use mathlib.Core.Path.{_≡_, ap, _∙_}
+use mathlib.Core.Path.{ap, _∙_}
 use Rattle.store.specs.Finish.{FinishResult}
 use Rattle.exports.specs.Codes.{finishedCode}
 use Rattle.exports.proofs.Signed.{back}

@@ -1,5 +1,5 @@
 -- `exports::bawnaroy_format` meets its contract: it is `formats::format`'s, and its answer's number. Assumes nothing.
-use mathlib.Core.Path.{_≡_, ap, _∙_}
+use mathlib.Core.Path.{ap, _∙_}
 use Rattle.formats.specs.Format.{FormatResult}
 use Rattle.exports.specs.Codes.{outcomeCode}
 use Rattle.exports.proofs.Signed.{outcome-back}

@@ -1,6 +1,6 @@
 -- `exports::bawnaroy_path_length` meets its contract: by whether the sizes are in range. Assumes nothing.
 use mathlib.Core.Path.{_≡_, sym, ap, _∙_}
-use mathlib.Core.Bool.{true, false}
+use mathlib.Core.Bool.{true}
 use borrow.Author.Tests.{not-true, not-false}
 use Rattle.sizes.specs.Sizes.{sizesGood, pathLen}
 use Rattle.sizes.proofs.Lengths.{sizes-range}

@@ -1,5 +1,5 @@
 -- `exports::bawnaroy_put` meets its contract: it is `tree::put`'s, and its answer's number. Assumes nothing.
-use mathlib.Core.Path.{_≡_, ap, _∙_}
+use mathlib.Core.Path.{ap, _∙_}
 use Rattle.tree.specs.Tree.{TreeResult}
 use Rattle.exports.specs.Codes.{outcomeCode}
 use Rattle.exports.proofs.Signed.{outcome-back}

@@ -1,5 +1,5 @@
 -- `exports::done` meets its contract: by the two cases. Assumes nothing.
-use mathlib.Core.Path.{_≡_, sym, ap, _∙_}
+use mathlib.Core.Path.{sym, ap, _∙_}
 use Rattle.exports.specs.Codes.{outcomeCode}
 use Rattle.exports.proofs.Signed.{code-back}
 use borrow.Author.Needs.{needs}

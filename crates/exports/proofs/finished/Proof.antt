@@ -1,5 +1,5 @@
 -- `exports::finished` meets its contract: by the four cases. Assumes nothing.
-use mathlib.Core.Path.{_≡_, sym, ap, _∙_}
+use mathlib.Core.Path.{sym, ap, _∙_}
 use native.Mathlib.Omega.{arith}
 use Rattle.exports.specs.Codes.{finishedCode}
 use Rattle.exports.proofs.Signed.{code-back, refusal-fits, plus-fits}

@@ -1,10 +1,9 @@
 -- `exports::refused` meets its contract: the number is small, so that its negative fits. Assumes nothing.
-use mathlib.Core.Path.{_≡_, sym, ap, _∙_}
+use mathlib.Core.Path.{ap, _∙_}
 use Prim.Native.Nat.{ℕ, _^_, _<_}
-use native.Mathlib.Omega.{arith}
 use lib.IntN.{ℤ, pos, negℤ}
 use mir.Syntax.{w32}
-use mir.Val.{SFits, toZ, ofZ}
+use mir.Val.{toZ, ofZ}
 use Rattle.exports.specs.Codes.{refusalCode}
 use Rattle.exports.proofs.Signed.{minus-is, minus-fits, back}
 use borrow.Author.Needs.{needs}

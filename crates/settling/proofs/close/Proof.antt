@@ -1,7 +1,5 @@
 -- `settling::close` meets its contract: zeros over body (c), and the status last. Assumes nothing.
 use mathlib.Core.Path.{_≡_, ap, _∙_}
-use native.Mathlib.Omega.{arith}
-use lib.ListN.{length-set}
 use Rattle.desk.specs.declared.Shape.{Shape}
 use Rattle.desk.specs.Layout.{cAt, shapeOf}
 use Rattle.desk.specs.Status.{atStatus}

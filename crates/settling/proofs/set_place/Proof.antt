@@ -1,6 +1,5 @@
 -- `settling::set_place` meets its contract: three bytes at the id's place. Assumes nothing.
 use mathlib.Core.Path.{_≡_, ap, _∙_}
-use native.Mathlib.Omega.{arith}
 use Rattle.words.specs.Numbers.{bytesOf}
 use Rattle.desk.specs.Layout.{dAt, shapeOf}
 use Rattle.desk.specs.Changes.{withPlace}

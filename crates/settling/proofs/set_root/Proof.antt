@@ -1,5 +1,4 @@
 -- `settling::set_root` meets its contract: the digest laid in, and the byte set. Assumes nothing.
-use mathlib.Core.Path.{_≡_}
 use Rattle.desk.specs.Changes.{withRoot}
 use borrow.Author.Needs.{needs}
 use Rattle.settling.proofs.set_root.Statement.{statement}

@@ -1,5 +1,4 @@
 -- `settling::set_stash` meets its contract: the count, and the slots right after it. Assumes nothing.
-use Prim.Native.Nat.{ℕ, _+_}
 use mathlib.Core.Path.{_≡_, ap, _∙_}
 use native.Mathlib.Omega.{arith}
 use denote.Ref.{now}
@@ -7,7 +6,7 @@ use lib.ListN.{length}
 use Rattle.words.specs.Numbers.{bytesOf}
 use Rattle.words.proofs.Numbers.{length-bytesOf}
 use Rattle.words.proofs.Splice.{splice-next}
-use Rattle.placing.specs.Bank.{slotsWith}
+use Rattle.slots.specs.Slots.{slotsWith}
 use Rattle.placing.specs.Bank.{blocksAt}
 use Rattle.placing.specs.Walk.{pick}
 use Rattle.desk.specs.declared.Shape.{Shape}

@@ -1,10 +1,7 @@
 -- `settling::settle` meets its contract: the four changes, one after another, each of a desk that is still whole. Assumes nothing.
-use Prim.Native.Nat.{_≤_}
-use mathlib.Core.Path.{_≡_, sym, _∙_}
-use mathlib.Core.List.{List}
+use mathlib.Core.Path.{_≡_}
 use native.Mathlib.Omega.{arith}
 use denote.Ref.{now}
-use Rattle.slots.specs.Slots.{Block}
 use Rattle.placing.specs.Bank.{blocksAt}
 use Rattle.placing.specs.Walk.{pick}
 use Rattle.desk.specs.Layout.{Whole, roomOf}

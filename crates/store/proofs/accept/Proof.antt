@@ -1,12 +1,10 @@
 -- `store::accept` meets its contract: what is laid is what the path is written from, and its root digest goes to the desk. Assumes nothing.
-use Prim.Native.Nat.{ℕ, suc, _+_, _-_, _≤_}
-use mathlib.Core.Path.{_≡_, ap, _∙_}
-use mathlib.Core.List.{List, []}
+use Prim.Native.Nat.{ℕ, _+_, _-_}
+use mathlib.Core.Path.{ap, _∙_}
+use mathlib.Core.List.{List}
 use native.Mathlib.Omega.{arith}
 use denote.Ref.{now}
-use lib.ListN.{getD}
-use Rattle.slots.specs.Slots.{Block}
-use Rattle.items.specs.Items.{slotsWith}
+use Rattle.slots.specs.Slots.{Block, slotsWith}
 use Rattle.writing.specs.Pieces.{Holds}
 use Rattle.placing.specs.Bank.{blocksAt}
 use Rattle.placing.specs.Walk.{pick}

@@ -1,12 +1,11 @@
 -- `store::finish_open` meets its contract: each return gives the first row of the path's that applies. Assumes nothing.
-use mathlib.Core.Bool.{true, false}
+use mathlib.Core.Bool.{true}
 use mathlib.Core.Path.{_≡_, sym, ap, subst, _∙_}
 use native.Mathlib.Omega.{arith}
 use lib.ListN.{length}
 use borrow.Author.Tests.{not-true, not-false}
 use Rattle.sizes.specs.Sizes.{pathLen}
 use Rattle.items.specs.declared.View.{View}
-use Rattle.items.specs.Items.{Carries}
 use Rattle.items.specs.Way.{Reached}
 use Rattle.items.specs.Real.{real}
 use Rattle.opening.specs.Opening.{genuine}

@@ -1,7 +1,6 @@
 -- `store::follow` meets its contract: the plan can be written, and what is accepted by it is what the paper writes. Assumes nothing.
-use Prim.Native.Nat.{ℕ}
 use mathlib.Core.Bool.{Bool}
-use mathlib.Core.Path.{_≡_, sym, ap₂, _∙_}
+use mathlib.Core.Path.{_≡_, ap₂, _∙_}
 use native.Mathlib.Omega.{arith}
 use lib.ListN.{length, take, length-take}
 use Rattle.desk.specs.declared.Kind.{Kind}

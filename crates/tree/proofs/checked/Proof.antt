@@ -1,10 +1,9 @@
 -- `tree::checked` meets its contract: each return gives the first row of the paper's that applies. Assumes nothing.
 use mathlib.Core.Path.{_≡_, sym, ap, _∙_}
-use mathlib.Core.Bool.{true, false, not}
-use lib.ListN.{length}
-use lib.Dec.{eqb, leb}
+use mathlib.Core.Bool.{true, false}
+use lib.Dec.{leb}
 use borrow.Author.Tests.{not-true, not-false, le-leb, lt-leb}
-use Rattle.sizes.specs.Sizes.{sizesGood, InRange, leaves, treeLen, pathLen}
+use Rattle.sizes.specs.Sizes.{sizesGood, leaves}
 use Rattle.tree.specs.Tree.{treeChecked}
 use Rattle.sizes.proofs.Lengths.{sizes-range}
 use borrow.Author.Needs.{needs}

@@ -1,7 +1,6 @@
 -- `tree::fetch` meets its contract: a refusal keeps the path, and where none applies `copy_out` fills it. Assumes nothing.
-use mathlib.Core.Path.{_≡_, sym, ap, _∙_}
+use mathlib.Core.Path.{sym, ap, _∙_}
 use denote.Ref.{now}
-use Rattle.sizes.specs.Sizes.{sized}
 use Rattle.tree.specs.Tree.{treeChecked}
 use Rattle.tree.proofs.Checks.{checked-fits}
 use borrow.Author.Needs.{needs}

@@ -1,5 +1,4 @@
 -- `words::get16` meets its contract: the sum is the definition, written out. Assumes nothing.
-use Prim.Native.Nat.{_+_}
 use native.Mathlib.Omega.{arith}
 use Rattle.words.specs.Numbers.{number}
 use borrow.Author.Needs.{needs}

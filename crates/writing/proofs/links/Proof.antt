@@ -15,7 +15,7 @@ use Rattle.items.specs.Way.{item}
 use Rattle.items.specs.Real.{real}
 use Rattle.items.proofs.Fields.{digest-of}
 use Rattle.writing.specs.Writing.{isKept}
-use Rattle.writing.proofs.Sides.{linksLen, laidOn, links-lone, links-both}
+use Rattle.writing.proofs.Sides.{laidOn, links-lone, links-both}
 use borrow.Author.Needs.{needs}
 use Rattle.writing.proofs.links.Statement.{statement}
 use Rattle.writing.proofs.links.Tie as tie

@@ -1,6 +1,6 @@
 -- `writing::next_counter` meets its contract: reachable or not, as the number of reachable items says. Assumes nothing.
 use Prim.Native.Nat.{ℕ, _+_}
-use mathlib.Core.Path.{_≡_, sym, ap, _∙_}
+use mathlib.Core.Path.{ap, _∙_}
 use borrow.Author.Tests.{lt-ltb, le-ltb}
 use Rattle.words.specs.Numbers.{bytesOf}
 use Rattle.sizes.specs.Sizes.{counterLen}

@@ -1,17 +1,15 @@
 -- `writing::write_inner` meets its contract: flags and digests stand right behind the slots. Assumes nothing.
-use Prim.Native.Nat.{ℕ, _+_}
-use mathlib.Core.Path.{_≡_, sym, ap, _∙_}
+use mathlib.Core.Path.{_≡_, _∙_}
 use mathlib.Core.List.{[]}
 use native.Mathlib.Omega.{arith}
 use denote.Ref.{now}
 use lib.ListN.{length}
-use Rattle.words.proofs.Splice.{splice-next, length-part}
-use Rattle.sizes.specs.Sizes.{leafLen, slotsLen, itemAt}
+use Rattle.words.proofs.Splice.{splice-next}
+use Rattle.sizes.specs.Sizes.{leafLen, itemAt}
 use Rattle.sizes.proofs.Lengths.{level-fits}
 use Rattle.items.specs.Items.{slotsOf}
 use Rattle.items.specs.Way.{item}
 use Rattle.items.specs.Real.{real}
-use Rattle.items.proofs.Fields.{slots-of}
 use Rattle.writing.specs.Writing.{newCounter}
 use Rattle.writing.specs.Pieces.{headOf, linksOf}
 use Rattle.writing.proofs.Heads.{length-head, length-slots-of}

@@ -1,6 +1,6 @@
 -- `writing::write_item` meets its contract: an inner item has flags and digests behind its slots, a leaf's has not. Assumes nothing.
 use Prim.Native.Nat.{ℕ}
-use mathlib.Core.Path.{_≡_, sym, ap, _∙_}
+use mathlib.Core.Path.{sym, ap, _∙_}
 use mathlib.Core.List.{List, [], _++_, append-nil}
 use denote.Ref.{now}
 use Rattle.words.specs.Bytes.{splice}

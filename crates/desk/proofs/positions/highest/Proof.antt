@@ -5,7 +5,7 @@ use mathlib.Core.Bool.{true}
 use mathlib.Core.List.{[], _∷_, _++_}
 use native.Mathlib.Omega.{arith}
 use borrow.Author.Needs.{needs}
-use lib.ListN.{length, length-replicate}
+use lib.ListN.{length}
 use Rattle.words.specs.Bytes.{splice}
 use Rattle.words.specs.Numbers.{bytesOf}
 use Rattle.sizes.specs.Sizes.{placeLen}

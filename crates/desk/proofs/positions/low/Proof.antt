@@ -1,4 +1,4 @@
--- `desk::positions::low` meets its contract: there are sixteen places, and their bytes were compared. Assumes nothing.
+-- `desk::positions::low` meets its contract: there are sixty-four places, and their bytes were compared. Assumes nothing.
 use Prim.Native.Nat.{ℕ, _+_, _*_, _-_}
 use mathlib.Core.Path.{_≡_, sym, ap, _∙_}
 use native.Mathlib.Omega.{arith}

@@ -1,4 +1,4 @@
--- `desk::positions::places_good` meets its contract: the first i places are good; sixteen more that are low, or one more, keeps that; the first other one decides. Assumes nothing.
+-- `desk::positions::places_good` meets its contract: the first i places are good; sixty-four more that are low, or one more, keeps that; the first other one decides. Assumes nothing.
 use Prim.Native.Nat.{_≤_, _-_}
 use mathlib.Core.Path.{_≡_, sym, _∙_}
 use mathlib.Core.Bool.{true}

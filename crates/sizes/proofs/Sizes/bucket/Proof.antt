@@ -1,6 +1,6 @@
 -- `sizes::Sizes::bucket` meets its contract: the definition, whose place is below the number of places of its level. Assumes nothing.
 use Prim.Native.Nat.{ℕ, _+_, _-_}
-use mathlib.Core.Path.{_≡_, ap}
+use mathlib.Core.Path.{ap}
 use native.Mathlib.Omega.{arith}
 use Rattle.sizes.specs.Sizes.{placeIn}
 use Rattle.sizes.proofs.Buckets.{place-below, bucket-below}

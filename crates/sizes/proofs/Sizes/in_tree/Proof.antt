@@ -1,5 +1,5 @@
 -- `sizes::Sizes::in_tree` meets its contract: the bucket of that level, which is as long as the item. Assumes nothing.
-use mathlib.Core.Path.{_≡_, ap, _∙_}
+use mathlib.Core.Path.{ap, _∙_}
 use native.Mathlib.Omega.{arith}
 use Rattle.sizes.specs.Sizes.{treeAt, bucketAt}
 use Rattle.sizes.proofs.Lengths.{bucket-fits}

@@ -1,8 +1,7 @@
 -- `sizes::Sizes::item_at` meets its contract: the definition, and the laws that say where items end. Assumes nothing.
 use Prim.Native.Nat.{ℕ, _*_}
-use mathlib.Core.Path.{_≡_, ap}
+use mathlib.Core.Path.{ap}
 use native.Mathlib.Omega.{arith}
-use Rattle.sizes.specs.Sizes.{itemAt}
 use Rattle.sizes.proofs.Lengths.{product-most, item-fits, level-fits, path-most}
 use borrow.Author.Needs.{needs}
 use Rattle.sizes.proofs.Sizes.item_at.Statement.{statement}

@@ -1,5 +1,5 @@
 -- `sizes::Sizes::tree_at` meets its contract: the definition, by which of the two kinds the bucket is. Assumes nothing.
-use Prim.Native.Nat.{ℕ, _+_, _*_, _-_}
+use Prim.Native.Nat.{ℕ, _*_, _-_}
 use mathlib.Core.Path.{_≡_, ap, sym, _∙_}
 use native.Mathlib.Omega.{arith}
 use Rattle.sizes.specs.Sizes.{inners, leafLen, innerLen}

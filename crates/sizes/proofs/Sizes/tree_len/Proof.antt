@@ -1,6 +1,6 @@
 -- `sizes::Sizes::tree_len` meets its contract: the definition, in numbers small enough to fit. Assumes nothing.
-use Prim.Native.Nat.{ℕ, _+_, _*_, _-_}
-use mathlib.Core.Path.{_≡_, ap}
+use Prim.Native.Nat.{_-_}
+use mathlib.Core.Path.{_≡_}
 use native.Mathlib.Omega.{arith}
 use Rattle.sizes.specs.Sizes.{leaves, leafLen, innerLen}
 use Rattle.sizes.proofs.Lengths.{product-most}

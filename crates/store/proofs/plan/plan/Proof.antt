@@ -1,8 +1,6 @@
 -- `store::plan::plan` meets its contract: what is arranged is what the desk, the path and the request hold. Assumes nothing.
-use mathlib.Core.Path.{_≡_, ap, _∙_}
-use native.Mathlib.Omega.{arith}
+use mathlib.Core.Path.{ap, _∙_}
 use lib.ListN.{length}
-use Rattle.sizes.specs.declared.Sizes.{Sizes}
 use Rattle.desk.specs.declared.Shape.{Shape}
 use Rattle.items.specs.declared.View.{View}
 use Rattle.store.proofs.Ready.{record-long, arranged, planned}
@@ -16,19 +14,19 @@ request-of-requires c κs = search needs
 shape-of-requires : tie.Need-shape-of-requires
 shape-of-requires c κs = search needs
 
-count-requires : tie.Need-count-requires
-count-requires c κs = search needs
+stash-count-requires : tie.Need-stash-count-requires
+stash-count-requires c κs = search needs
 
-slots-requires : tie.Need-slots-requires
-slots-requires c κs = search needs
+stash-slots-requires : tie.Need-stash-slots-requires
+stash-slots-requires c κs = search needs
 
 arrange-requires : tie.Need-arrange-requires
 arrange-requires c κs =
     let s = c .before .before .before .before .before .before .before .before .before .before .before .before .before .before in
     let a = s .args in
     let y = s .pre .0 in (
-      arranged (a .desk .now) (a .path .now) (a .v) (a .n) (a .w .now) y (a .v .sizes) (c .before .before .before .before .before .shape-of .result .n) (c .before .before .before .slots .result .now) (c .before .before .before .before .count .result) (c .before .before .before .before .before .before .request-of .result)
-          (ap (λ (x : View). x .sizes) (y .view)) (ap (λ (h : Shape). h .n) (c .before .before .before .before .before .shape-of .ensures)) (c .before .before .before .slots .ensures) (c .before .before .before .before .count .ensures) (c .before .before .before .before .before .before .request-of .ensures),
+      arranged (a .desk .now) (a .path .now) (a .v) (a .n) (a .w .now) y (a .v .sizes) (c .before .before .before .before .before .shape-of .result .n) (c .before .before .before .stash-slots .result .now) (c .before .before .before .before .stash-count .result) (c .before .before .before .before .before .before .request-of .result)
+          (ap (λ (x : View). x .sizes) (y .view)) (ap (λ (h : Shape). h .n) (c .before .before .before .before .before .shape-of .ensures)) (c .before .before .before .stash-slots .ensures) (c .before .before .before .before .stash-count .ensures) (c .before .before .before .before .before .before .request-of .ensures),
       record {
         bank-size = s .pre .1 .1 .0 .0;
         places-size = s .pre .1 .1 .0 .1 .0;
@@ -52,8 +50,8 @@ returns c =
     let a = s .args in
     let y = s .pre .0 in
     let r = c .before .before .before .before .before .before .arrange in
-    planned (a .desk .now) (a .path .now) (a .v) (a .n) (a .w .now) y (a .v .sizes) (c .before .before .before .before .before .before .before .before .before .before .before .before .shape-of .result .n) (c .before .before .before .before .before .before .before .before .before .before .slots .result .now) (c .before .before .before .before .before .before .before .before .before .before .before .count .result) (c .before .before .before .before .before .before .before .before .before .before .before .before .before .request-of .result)
-    (ap (λ (x : View). x .sizes) (y .view)) (ap (λ (h : Shape). h .n) (c .before .before .before .before .before .before .before .before .before .before .before .before .shape-of .ensures)) (c .before .before .before .before .before .before .before .before .before .before .slots .ensures) (c .before .before .before .before .before .before .before .before .before .before .before .count .ensures) (c .before .before .before .before .before .before .before .before .before .before .before .before .before .request-of .ensures)
+    planned (a .desk .now) (a .path .now) (a .v) (a .n) (a .w .now) y (a .v .sizes) (c .before .before .before .before .before .before .before .before .before .before .before .before .shape-of .result .n) (c .before .before .before .before .before .before .before .before .before .before .stash-slots .result .now) (c .before .before .before .before .before .before .before .before .before .before .before .stash-count .result) (c .before .before .before .before .before .before .before .before .before .before .before .before .before .request-of .result)
+    (ap (λ (x : View). x .sizes) (y .view)) (ap (λ (h : Shape). h .n) (c .before .before .before .before .before .before .before .before .before .before .before .before .shape-of .ensures)) (c .before .before .before .before .before .before .before .before .before .before .stash-slots .ensures) (c .before .before .before .before .before .before .before .before .before .before .before .stash-count .ensures) (c .before .before .before .before .before .before .before .before .before .before .before .before .before .request-of .ensures)
     (a .carried .now) (s .pre .1 .1 .1) (a .v .leaf) (r .result .all) (r .result .over) (r .last .0) (r .last .1 .0) (r .last .1 .1 .0) (r .ensures)
 
 pub plan-spec : {M : Type 1} → statement M
@@ -62,8 +60,8 @@ plan-spec =
     (tie.spec
     request-of-requires
     shape-of-requires
-    count-requires
-    slots-requires
+    stash-count-requires
+    stash-slots-requires
     arrange-requires
     same-length
     same-length-2

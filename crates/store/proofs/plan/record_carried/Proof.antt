@@ -1,11 +1,10 @@
 -- `store::plan::record_carried` meets its contract: the record has the length of the array, and fills it. Assumes nothing.
-use Prim.Native.Nat.{ℕ}
 use mathlib.Core.Bool.{Bool}
 use mathlib.Core.Path.{_≡_, ap, ap₂, _∙_}
 use native.Mathlib.Omega.{arith}
 use lib.ListN.{length}
 use Rattle.words.specs.Bytes.{zeros}
-use Rattle.words.proofs.Splice.{splice-whole, length-zeros}
+use Rattle.words.proofs.Splice.{splice-whole}
 use Rattle.desk.specs.declared.Kind.{Kind}
 use Rattle.desk.specs.Readers.{recordAsked}
 use Rattle.items.specs.Real.{real}

@@ -1,8 +1,7 @@
 -- `store::request::carried` meets its contract: the lookup for a read of a marked id, or else the request's record. Assumes nothing.
 use Prim.Native.Nat.{ℕ}
 use mathlib.Core.Bool.{Bool, cond}
-use mathlib.Core.List.{List}
-use mathlib.Core.Path.{_≡_, sym, ap, _∙_}
+use mathlib.Core.Path.{sym, ap, _∙_}
 use Rattle.desk.specs.Readers.{idAsked, recordAsked}
 use Rattle.items.specs.Real.{real}
 use Rattle.opening.specs.Opening.{lookup, gathered}

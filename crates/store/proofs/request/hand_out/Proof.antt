@@ -1,7 +1,5 @@
 -- `store::request::hand_out` meets its contract: what is carried on is the record found, where one is handed out. Assumes nothing.
-use Prim.Native.Nat.{ℕ}
 use mathlib.Core.Bool.{Bool, true, false, cond}
-use mathlib.Core.List.{List}
 use mathlib.Core.Path.{_≡_, sym, ap, _∙_}
 use native.Mathlib.Omega.{arith}
 use Rattle.words.proofs.Splice.{splice-whole}

@@ -1,5 +1,5 @@
 -- `store::request::mark_for` meets its contract: by kind and mark. Assumes nothing.
-use mathlib.Core.Path.{_≡_, sym, _∙_}
+use mathlib.Core.Path.{sym, _∙_}
 use Rattle.store.proofs.Carried.{mark-there, mark-none}
 use borrow.Author.Needs.{needs}
 use Rattle.store.proofs.request.mark_for.Statement.{statement}

@@ -9,7 +9,7 @@ use Rattle.desk.specs.Layout.{bodyC, bodyD, bodyE, shapeOf, placeAt}
 use Rattle.desk.specs.Readers.{statusOf, writtenOf, rootOf}
 use Rattle.desk.specs.Changes.{stashBytes}
 
-pub record View : Type 0 where
+pub record Parts : Type 0 where
   pub status : ℕ
   pub written : ℕ
   pub root : List ℕ
@@ -17,8 +17,8 @@ pub record View : Type 0 where
   pub places : List ℕ
   pub stash : List ℕ
 
-abbrev pub viewOf : List ℕ → View
-viewOf desk =
+abbrev pub partsOf : List ℕ → Parts
+partsOf desk =
     record {
       status = statusOf desk;
       written = writtenOf desk;
@@ -28,16 +28,16 @@ viewOf desk =
       stash = bodyE (shapeOf desk) desk;
     }
 
-abbrev pub toStatus : ℕ → View → View
+abbrev pub toStatus : ℕ → Parts → Parts
 toStatus s v = record { status = s; written = v .written; root = v .root; request = v .request; places = v .places; stash = v .stash }
 
-abbrev pub toRequest : List ℕ → View → View
+abbrev pub toRequest : List ℕ → Parts → Parts
 toRequest q v = record { status = v .status; written = v .written; root = v .root; request = q; places = v .places; stash = v .stash }
 
-abbrev pub toRoot : List ℕ → View → View
+abbrev pub toRoot : List ℕ → Parts → Parts
 toRoot digest v = record { status = v .status; written = 1; root = digest; request = v .request; places = v .places; stash = v .stash }
 
-abbrev pub toPlace : ℕ → ℕ → ℕ → View → View
+abbrev pub toPlace : ℕ → ℕ → ℕ → Parts → Parts
 toPlace id leaf mark v =
     record {
       status = v .status;
@@ -48,5 +48,5 @@ toPlace id leaf mark v =
       stash = v .stash;
     }
 
-abbrev pub toStash : Shape → List Block → View → View
+abbrev pub toStash : Shape → List Block → Parts → Parts
 toStash h bs v = record { status = v .status; written = v .written; root = v .root; request = v .request; places = v .places; stash = stashBytes h bs }
