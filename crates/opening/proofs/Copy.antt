@@ -5,7 +5,7 @@ use mathlib.Core.List.{List}
 use native.Mathlib.Nat.{zero-add}
 use native.Mathlib.Omega.{arith}
 use lib.ListN.{length}
-use Rattle.words.specs.Bytes.{part, splice, zeros}
+use Rattle.words.specs.Bytes.{part, splice}
 use Rattle.words.proofs.Splice.{part-splice, part-splice-in, part-splice-before, part-splice-after}
 use Rattle.words.proofs.Tests.{below-or}
 use Rattle.sizes.specs.Sizes.{leafLen, itemLen, itemAt, pathLen, counterLen, slotsLen, mostPath}
@@ -29,16 +29,16 @@ pub record Copied (v : View) (path w : List ℕ) (k : ℕ) : Type 0 where
   pub slots : (i : ℕ) → i < k → slotsIn v w i ≡ openedAt v path i
   pub lent : (i : ℕ) → k ≤ i → i ≤ v .sizes .height → item v w i ≡ item v path i
 
-pub copied-none : (v : View) (path w : List ℕ) → length path ≡ pathLen (v .sizes) → w ≡ splice (zeros mostPath) 0 path → Copied v path w 0
-copied-none v path w h e =
+pub copied-none : (v : View) (path before w : List ℕ) → length path ≡ pathLen (v .sizes) → w ≡ splice before 0 path → Copied v path w 0
+copied-none v path before w h e =
     record {
       slots = λ i l. absurd (omega arith);
       lent = λ i l m.
           let s = v .sizes in
           let z : 0 + itemAt s i ≡ itemAt s i = zero-add (itemAt s i) in
-          let p : part (splice (zeros mostPath) 0 path) (0 + itemAt s i) (itemLen s i) ≡ part path (itemAt s i) (itemLen s i) =
-          part-splice-in (zeros mostPath) 0 path (itemAt s i) (itemLen s i) (omega arith) (omega (arith, item-fits s i m)) in
-          ap (λ (x : List ℕ). item v x i) e ∙ ap (λ (a : ℕ). part (splice (zeros mostPath) 0 path) a (itemLen s i)) (sym z) ∙ p;
+          let p : part (splice before 0 path) (0 + itemAt s i) (itemLen s i) ≡ part path (itemAt s i) (itemLen s i) =
+          part-splice-in before 0 path (itemAt s i) (itemLen s i) (omega arith) (omega (arith, item-fits s i m)) in
+          ap (λ (x : List ℕ). item v x i) e ∙ ap (λ (a : ℕ). part (splice before 0 path) a (itemLen s i)) (sym z) ∙ p;
     }
 
 pub copied-next : (v : View) (path w u : List ℕ) (k : ℕ) → k ≤ v .sizes .height → pathLen (v .sizes) ≤ length w → Copied v path w k

@@ -57,8 +57,8 @@ pub record Walked (desk : List ℕ) (k : ℕ) (bs : List Block) (before after : 
   pub answer : (met : List Block) → Seen before met → r ≡ walk desk k met bs
   pub met : (met : List Block) → Seen before met → r ≡ true → Seen after (met ++ those isUsed bs)
 
--- steps 1 and 2, whole
-pub record Opens (desk path : List ℕ) (o : Opening) : Type 0 where
+-- steps 1 and 2, whole, with the working copy that they leave
+pub record Opens (desk path w : List ℕ) (o : Opening) : Type 0 where
   pub count : Reached (viewOf desk) path (o .count)
   pub good : o .good ≡ genuine real desk path
-  pub bytes : Unsealed (viewOf desk) path (o .count) (o .bytes)
+  pub opened : Unsealed (viewOf desk) path (o .count) w

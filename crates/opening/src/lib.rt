@@ -4,7 +4,7 @@ use sizes::Sizes;
 ghost use mathlib.Core.Path.{_≡_};
 ghost use Prim.Native.Nat.{suc, _≤_, _<_};
 ghost use lib.ListN.{length};
-ghost use Rattle.sizes.specs.Sizes.{InRange, leaves, pathLen};
+ghost use Rattle.sizes.specs.Sizes.{InRange, leaves, pathLen, mostPath};
 ghost use Rattle.desk.specs.Readers.{idAsked};
 ghost use Rattle.opening.specs.Opening.{viewOf};
 ghost use Rattle.opening.specs.Walk.{OpenDesk, Unsealed, Opens};
@@ -50,42 +50,39 @@ pub fn view(desk: &[u8]) -> View
     }
 }
 
-// A working copy of the path, with the slots of its first `n` items opened.
-fn opened(path: &[u8], v: View, n: usize) -> [u8; Sizes::MOST_PATH]
+// The path goes into the lent working copy, and the slots of its first `n` items are opened there.
+fn open_slots(w: &mut [u8], path: &[u8], v: View, n: usize)
     requires { ⌜ InRange (v .sizes) × ((length (now path) ≡ pathLen (v .sizes)) × (v .leaf < leaves (v .sizes))) ⌝ }
-    requires { ⌜ n ≤ suc (v .sizes .height) ⌝ }
-    ensures { λ r. ⌜ Unsealed v (now (path .entry)) n r ⌝ }
+    requires { ⌜ (n ≤ suc (v .sizes .height)) × (length (now w) ≡ mostPath) ⌝ }
+    ensures { λ _. ⌜ Unsealed v (now (path .entry)) n (now (w .exit)) ⌝ }
 {
-    let mut w = [0u8; Sizes::MOST_PATH];
-    words::copy(&mut w, 0, path);
+    words::copy(w, 0, path);
     let mut k = 0;
     while k < n {
-        items::cipher_slots(&mut w, v, k);
+        items::cipher_slots(w, v, k);
         k += 1;
     }
-    w
 }
 
-// What steps 1 and 2 leave: how many items are reachable, whether all checks pass, and the working copy.
+// What steps 1 and 2 find: how many items are reachable, and whether all checks pass.
 pub struct Opening {
     pub count: usize,
     pub good: bool,
-    pub bytes: [u8; Sizes::MOST_PATH],
 }
 
-// Steps 1 and 2, whole.
-pub fn open_path(desk: &[u8], path: &[u8], v: View) -> Opening
+// Steps 1 and 2, whole. The opened slots are left in the lent working copy.
+pub fn open_path(desk: &[u8], path: &[u8], v: View, w: &mut [u8]) -> Opening
     requires { ⌜ OpenDesk (now desk) × ((v ≡ viewOf (now desk)) × (length (now path) ≡ pathLen (v .sizes))) ⌝ }
-    ensures { λ r. ⌜ Opens (now (desk .entry)) (now (path .entry)) r ⌝ }
+    requires { ⌜ length (now w) ≡ mostPath ⌝ }
+    ensures { λ r. ⌜ Opens (now (desk .entry)) (now (path .entry)) (now (w .exit)) r ⌝ }
 {
     let n = items::reach(path, v);
     let d = checks::digests_good(path, v, n);
     let f = checks::flags_good(path, v, n);
-    let w = opened(path, v, n);
-    let s = table::slots_good(desk, &w, v, n);
+    open_slots(w, path, v, n);
+    let s = table::slots_good(desk, w, v, n);
     Opening {
         count: n,
         good: d & f & s,
-        bytes: w,
     }
 }

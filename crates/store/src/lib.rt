@@ -207,7 +207,8 @@ fn finish_open(desk: &mut [u8], path: &mut [u8], record: &mut [u8]) -> Finished
     ensures { λ r. ⌜ result r (now (desk .exit)) (now (path .exit)) (now («record» .exit)) ≡ finishBy (firstOf (pathRows real (now (desk .entry)) (now (path .entry)))) real (now (desk .entry)) (now (path .entry)) (now («record» .entry)) ⌝ }
 {
     let v = opening::view(desk);
-    let o = opening::open_path(desk, path, v);
+    let mut w = [0u8; Sizes::MOST_PATH];
+    let o = opening::open_path(desk, path, v, &mut w);
     let good = o.good;
     if !good {
         desk[desk::STATUS] = desk::FORGED;
@@ -218,7 +219,6 @@ fn finish_open(desk: &mut [u8], path: &mut [u8], record: &mut [u8]) -> Finished
         desk[desk::STATUS] = desk::WORN;
         return Finished::Refused(Refusal::Worn);
     }
-    let mut w = o.bytes;
     place(desk, path, record, &mut w, v, n)
 }
 

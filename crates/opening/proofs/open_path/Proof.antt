@@ -11,39 +11,39 @@ use Rattle.opening.proofs.open_path.Statement.{statement}
 use Rattle.opening.proofs.open_path.Tie as tie
 
 carries : (c : tie.Start) → Carries (c .args .v .sizes) (c .args .path .now)
-carries c = record { range = view-range (c .args .desk .now) (c .pre .0) (c .args .v) (c .pre .1 .0); room = omega (arith, c .pre .1 .1) }
+carries c = record { range = view-range (c .args .desk .now) (c .pre .0 .0) (c .args .v) (c .pre .0 .1 .0); room = omega (arith, c .pre .0 .1 .1) }
 
 reach-requires : tie.Need-reach-requires
-reach-requires c κs = carries (c .before .before)
+reach-requires c κs = carries (c .before .before .before)
 
 digests-good-requires : tie.Need-digests-good-requires
-digests-good-requires c κs = (carries (c .before .before .before), c .reach .ensures)
+digests-good-requires c κs = (carries (c .before .before .before .before), c .reach .ensures)
 
 flags-good-requires : tie.Need-flags-good-requires
-flags-good-requires c κs = (carries (c .before .before .before .before), c .before .reach .ensures)
+flags-good-requires c κs = (carries (c .before .before .before .before .before), c .before .reach .ensures)
 
-opened-requires : tie.Need-opened-requires
-opened-requires c κs =
-    let a = c .before .before .before .before .before .args in
-    let p = c .before .before .before .before .before .pre in
-    ((view-range (a .desk .now) (p .0) (a .v) (p .1 .0), (p .1 .1, view-leaf (a .desk .now) (p .0) (a .v) (p .1 .0))), c .before .before .reach .ensures .most)
-
-slice-aggregate-slots-good : tie.Need-slice-aggregate-slots-good
-slice-aggregate-slots-good c = search needs
+open-slots-requires : tie.Need-open-slots-requires
+open-slots-requires c κs =
+    let a = c .before .before .before .before .before .before .before .args in
+    let p = c .before .before .before .before .before .before .before .pre in
+    ((view-range (a .desk .now) (p .0 .0) (a .v) (p .0 .1 .0), (p .0 .1 .1, view-leaf (a .desk .now) (p .0 .0) (a .v) (p .0 .1 .0))), (c .before .before .before .reach .ensures .most, p .1))
 
 slots-good-requires : tie.Need-slots-good-requires
-slots-good-requires c κs = let p = c .before .before .before .before .before .before .before .pre in ((p .0, (p .1 .0, c .before .before .before .before .reach .ensures .most)), c .before .opened .ensures .size)
+slots-good-requires c κs = let p = c .before .before .before .before .before .before .before .before .before .before .before .pre in ((p .0 .0, (p .0 .1 .0, c .before .before .before .before .before .before .before .reach .ensures .most)), c .before .before .before .open-slots .ensures .size)
+
+same-length : tie.Need-same-length
+same-length c = search needs
 
 returns : tie.Need-returns
 returns c =
-    let a = c .before .before .before .before .before .before .before .before .args in
-    let e = c .before .before .before .before .before .before .before .before .pre .1 .0 in
-    let r = c .before .before .before .before .before .reach .ensures in
-    let u = c .before .before .opened .ensures in
+    let a = c .before .before .before .before .before .before .before .before .before .before .before .before .args in
+    let e = c .before .before .before .before .before .before .before .before .before .before .before .before .pre .0 .1 .0 in
+    let r = c .before .before .before .before .before .before .before .before .reach .ensures in
+    let u = c .before .before .before .before .open-slots .ensures in
     record {
-      count = subst (λ (v : View). Reached v (a .path .now) (c .before .before .before .before .before .reach .result)) e r;
-      good = whole-genuine (a .desk .now) (a .path .now) (c .before .before .before .before .digests-good .result) (c .before .before .before .flags-good .result) (c .slots-good .result) (a .v) e (c .before .before .before .before .digests-good .ensures) (c .before .before .before .flags-good .ensures) (c .slots-good .ensures (a .path .now) r u);
-      bytes = subst (λ (v : View). Unsealed v (a .path .now) (c .before .before .before .before .before .reach .result) (c .before .before .opened .result)) e u;
+      count = subst (λ (v : View). Reached v (a .path .now) (c .before .before .before .before .before .before .before .before .reach .result)) e r;
+      good = whole-genuine (a .desk .now) (a .path .now) (c .before .before .before .before .before .before .before .digests-good .result) (c .before .before .before .before .before .before .flags-good .result) (c .slots-good .result) (a .v) e (c .before .before .before .before .before .before .before .digests-good .ensures) (c .before .before .before .before .before .before .flags-good .ensures) (c .slots-good .ensures (a .path .now) r u);
+      opened = subst (λ (v : View). Unsealed v (a .path .now) (c .before .before .before .before .before .before .before .before .reach .result) (c .before .before .before .before .open-slots .last .0)) e u;
     }
 
 pub open-path-spec : {M : Type 1} → statement M
@@ -53,7 +53,7 @@ open-path-spec =
     reach-requires
     digests-good-requires
     flags-good-requires
-    opened-requires
-    slice-aggregate-slots-good
+    open-slots-requires
     slots-good-requires
+    same-length
     returns)
