@@ -3,6 +3,7 @@
 
 mod wrong;
 
+use second::check::Opened;
 use second::compare::{self, Config, Report};
 use second::desk::{self, Desk};
 use second::item::{self, Child};
@@ -93,23 +94,27 @@ fn position_kept_after_never() {
 #[test]
 fn flag_of_an_unreachable_item_believed() {
     for section in ["honest", "paths"] {
-        finish_caught("flag believed", section, |desk, path, record| {
-            let led_on = opened(desk, path, record).is_some_and(|opened| {
-                let shape = opened.shape;
-                let inner = opened.reachable..usize::from(shape.height);
-                let mut items = inner.map(|level| {
-                    let flag = Child::towards(shape, opened.leaf, level).flag(shape);
-                    path[shape.in_path(level)][flag]
-                });
-                items.any(|flag| flag == 1)
+        forged_where("flag believed", section, |opened, path| {
+            let shape = opened.shape;
+            let inner = opened.reachable..usize::from(shape.height);
+            let mut items = inner.map(|level| {
+                let flag = Child::towards(shape, opened.leaf, level).flag(shape);
+                path[shape.in_path(level)][flag]
             });
-            if led_on {
-                desk[desk::STATUS] = desk::STOPPED_FORGED;
-                return FORGED;
-            }
-            Second.finish(desk, path, record)
+            items.any(|flag| flag == 1)
         });
     }
+}
+
+/// A finish that says Forged wherever `wrong` holds of an opened path is noticed.
+fn forged_where(name: &str, section: &'static str, wrong: fn(&Opened, &[u8]) -> bool) {
+    finish_caught(name, section, move |desk, path, record| {
+        if opened(desk, path, record).is_some_and(|opened| wrong(&opened, path)) {
+            desk[desk::STATUS] = desk::STOPPED_FORGED;
+            return FORGED;
+        }
+        Second.finish(desk, path, record)
+    });
 }
 
 #[test]
@@ -135,22 +140,14 @@ fn sibling_digest_carried_out_of_an_unreachable_item() {
 
 #[test]
 fn digest_behind_flag_0_not_read_as_zeros() {
-    finish_caught("digest as it lies", "paths", |desk, path, record| {
-        let lies = opened(desk, path, record).is_some_and(|opened| {
-            let shape = opened.shape;
-            (0..opened.reachable.min(usize::from(shape.height))).any(|level| {
-                let item = &path[shape.in_path(level)];
-                let mut children = [Child::Left, Child::Right].into_iter();
-                children.any(|child| {
-                    item[child.flag(shape)] == 0 && item[child.digest(shape)] != [0; 32]
-                })
-            })
-        });
-        if lies {
-            desk[desk::STATUS] = desk::STOPPED_FORGED;
-            return FORGED;
-        }
-        Second.finish(desk, path, record)
+    forged_where("digest as it lies", "paths", |opened, path| {
+        let shape = opened.shape;
+        (0..opened.reachable.min(usize::from(shape.height))).any(|level| {
+            let item = &path[shape.in_path(level)];
+            let mut children = [Child::Left, Child::Right].into_iter();
+            children
+                .any(|child| item[child.flag(shape)] == 0 && item[child.digest(shape)] != [0; 32])
+        })
     });
 }
 
@@ -169,42 +166,46 @@ fn block_without_room_dropped() {
     }
 }
 
+/// A finish that changes desk, path or record after it answered so is noticed.
+fn changed_after(
+    name: &str,
+    section: &str,
+    answers: &[i32],
+    change: fn(&mut [u8], &mut [u8], &mut [u8]),
+) {
+    for &changed in answers {
+        finish_caught(name, section, move |desk, path, record| {
+            let answer = Second.finish(desk, path, record);
+            if answer == changed {
+                change(desk, path, record);
+            }
+            answer
+        });
+    }
+}
+
 #[test]
 fn path_written_and_then_full() {
-    finish_caught("path written", "honest", |desk, path, record| {
-        let answer = Second.finish(desk, path, record);
-        if answer == FULL {
-            let last = path.len() - 1;
-            path[last] ^= 1;
-        }
-        answer
+    changed_after("path written", "honest", &[FULL], |_, path, _| {
+        let last = path.len() - 1;
+        path[last] ^= 1;
     });
 }
 
 #[test]
 fn record_handed_out_with_a_refusal() {
-    for refusal in [FORGED, WORN, FULL] {
-        finish_caught("record changed", "paths", move |desk, path, record| {
-            let answer = Second.finish(desk, path, record);
-            if answer == refusal {
-                record[63] ^= 1;
-            }
-            answer
-        });
-    }
+    let refusals = [FORGED, WORN, FULL];
+    changed_after("record changed", "paths", &refusals, |_, _, record| {
+        record[63] ^= 1;
+    });
 }
 
 #[test]
 fn status_not_written() {
-    for refusal in [FORGED, WORN, FULL] {
-        finish_caught("status left", "paths", move |desk, path, record| {
-            let answer = Second.finish(desk, path, record);
-            if answer == refusal {
-                desk[desk::STATUS] = desk::OPEN;
-            }
-            answer
-        });
-    }
+    let refusals = [FORGED, WORN, FULL];
+    changed_after("status left", "paths", &refusals, |desk, _, _| {
+        desk[desk::STATUS] = desk::OPEN;
+    });
 }
 
 #[test]

@@ -5,6 +5,7 @@ use super::draw;
 use super::made::Made;
 use super::pair::{Mismatch, Pair};
 use super::spoil_desk::{spoil, to_ready};
+use super::tally::{COPY_REASONS, FINISH_REASONS, FORMAT_REASONS};
 use crate::desk;
 use crate::format::Sizes;
 use crate::found::Named;
@@ -34,11 +35,12 @@ fn bad<const N: usize>(random: &mut Random) -> [bool; N] {
     }
 }
 
-/// The reason of a refusal that has only one.
-fn alone<const N: usize>(bad: [bool; N], names: [&'static str; N]) -> Option<&'static str> {
+/// The name of the one fault that there is. A fault behind the last name has
+/// a refusal of its own, and needs none.
+fn alone(bad: &[bool], names: &[&'static str]) -> Option<&'static str> {
     let single = bad.iter().filter(|bad| **bad).count() == 1;
     let place = bad.iter().position(|bad| *bad)?;
-    single.then_some(names[place])
+    names.get(place).copied().filter(|_| single)
 }
 
 fn junk(random: &mut Random, length: usize) -> Vec<u8> {
@@ -83,16 +85,7 @@ fn format(pair: &mut Pair, random: &mut Random) -> Result<(), Mismatch> {
     pair.lend_desk(&junk(random, desk));
     pair.lend_input(&junk(random, key));
     pair.format(sizes, &leaves)?;
-    let names = [
-        "BadSize by L alone",
-        "BadSize by Z alone",
-        "BadSize by N alone",
-        "BadLength by desk alone",
-        "BadLength by leaves alone",
-        "BadLength by key alone",
-        "",
-    ];
-    if let Some(name) = alone(bad, names).filter(|name| !name.is_empty()) {
+    if let Some(name) = alone(&bad, &FORMAT_REASONS) {
         pair.tally.reach("format, reason", name);
     }
     Ok(())
@@ -163,8 +156,7 @@ fn finish(pair: &mut Pair, random: &mut Random) -> Result<(), Mismatch> {
     pair.lend_path(&path);
     pair.lend_record(&junk(random, record));
     let answer = pair.finish()?;
-    let names = ["BadLength by path alone", "BadLength by record alone"];
-    if let (-7, Some(name)) = (answer, alone(bad, names)) {
+    if let (-7, Some(name)) = (answer, alone(&bad, &FINISH_REASONS)) {
         pair.tally.reach("finish, reason", name);
     }
     Ok(())
@@ -196,14 +188,7 @@ fn copy(pair: &mut Pair, random: &mut Random, back: bool) -> Result<(), Mismatch
         pair.fetch(height, slots, leaf)?;
         "fetch, reason"
     };
-    let names = [
-        "BadSize by L alone",
-        "BadSize by Z alone",
-        "BadLength by tree alone",
-        "BadLength by path alone",
-        "",
-    ];
-    if let Some(name) = alone(bad, names).filter(|name| !name.is_empty()) {
+    if let Some(name) = alone(&bad, &COPY_REASONS) {
         pair.tally.reach(group, name);
     }
     // A large tree isn't to be compared again in later calls.

@@ -8,28 +8,27 @@ use std::collections::BTreeMap;
 type Key = (&'static str, &'static str);
 
 const COPY: &[&str] = &["done", "BadSize", "BadLeaf", "BadLength"];
-const COPY_REASONS: &[&str] = &[
+pub const COPY_REASONS: [&str; 4] = [
     "BadSize by L alone",
     "BadSize by Z alone",
     "BadLength by tree alone",
     "BadLength by path alone",
 ];
+pub const FORMAT_REASONS: [&str; 6] = [
+    "BadSize by L alone",
+    "BadSize by Z alone",
+    "BadSize by N alone",
+    "BadLength by desk alone",
+    "BadLength by leaves alone",
+    "BadLength by key alone",
+];
+pub const FINISH_REASONS: [&str; 2] = ["BadLength by path alone", "BadLength by record alone"];
 const STATUSES: &[&str] = &["stopped as forged", "stopped as worn", "stopped as full"];
 
 /// Everything that a whole run has to reach, by group.
 const EXPECTED: &[(&str, &[&str])] = &[
     ("format", &["done", "BadSize", "BadLength", "BadLeaf"]),
-    (
-        "format, reason",
-        &[
-            "BadSize by L alone",
-            "BadSize by Z alone",
-            "BadSize by N alone",
-            "BadLength by desk alone",
-            "BadLength by leaves alone",
-            "BadLength by key alone",
-        ],
-    ),
+    ("format, reason", &FORMAT_REASONS),
     (
         "ask_read",
         &["leaf", "BadDesk", "Stopped", "Open", "BadId", "BadLeaf"],
@@ -61,14 +60,11 @@ const EXPECTED: &[(&str, &[&str])] = &[
             "Full",
         ],
     ),
-    (
-        "finish, reason",
-        &["BadLength by path alone", "BadLength by record alone"],
-    ),
+    ("finish, reason", &FINISH_REASONS),
     ("fetch", COPY),
-    ("fetch, reason", COPY_REASONS),
+    ("fetch, reason", &COPY_REASONS),
     ("put", COPY),
-    ("put, reason", COPY_REASONS),
+    ("put, reason", &COPY_REASONS),
     (
         "ask, id",
         &["0 refused", "N+1 refused", "1 taken", "N taken"],
