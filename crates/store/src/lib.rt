@@ -1,6 +1,6 @@
 // Finish: the open request is answered over the path that the server handed back. Nothing lent is written before the last refusal is behind.
-use desk::Kind;
 use items::View;
+use placing::Counts;
 use sizes::Outcome;
 use sizes::Refusal;
 use sizes::Sizes;
@@ -10,7 +10,7 @@ ghost use lib.ListN.{length};
 ghost use Rattle.sizes.specs.Sizes.{leaves, pathLen, recordLen};
 ghost use Rattle.sizes.specs.Refusals.{firstOf};
 ghost use Rattle.desk.specs.Layout.{Whole, idsOf, roomOf};
-ghost use Rattle.desk.specs.Readers.{sizesOf, kindAsked, idAsked, newLeaf, isMarked};
+ghost use Rattle.desk.specs.Readers.{sizesOf, newLeaf};
 ghost use Rattle.opening.specs.Walk.{OpenDesk};
 ghost use Rattle.items.specs.Items.{Carries};
 ghost use Rattle.items.specs.Way.{Reached};
@@ -108,37 +108,24 @@ fn follow(
     w: &mut [u8],
     v: View,
     n: usize,
-    kind: Kind,
-    marked: bool,
-    all: usize,
-    over: usize,
+    c: Counts,
     bank: &[u8],
     places: &[u16],
     at: &[u8],
 )
     requires { ⌜ Ready (now desk) (now path) v n (now w) ⌝ }
-    requires { ⌜ (kind ≡ kindAsked (now desk)) × (marked ≡ isMarked (now desk) (idAsked (now desk))) ⌝ }
-    requires { ⌜ (over ≤ roomOf (now desk)) × ((length (now places) ≡ mostBlocks) × (length (now at) ≡ mostBlocks)) ⌝ }
-    requires { ⌜ Planned (v .sizes) (v .leaf) (toPlace real (now desk) (now path)) all over (now bank) (now places) (now at) ⌝ }
+    requires { ⌜ (c .over ≤ roomOf (now desk)) × ((length (now places) ≡ mostBlocks) × (length (now at) ≡ mostBlocks)) ⌝ }
+    requires { ⌜ Planned (v .sizes) (v .leaf) (toPlace real (now desk) (now path)) (c .all) (c .over) (now bank) (now places) (now at) ⌝ }
     ensures { λ _. ⌜ (now (path .exit) ≡ newPath real (now (desk .entry)) (now (path .entry))) × (now (desk .exit) ≡ newDesk real (now (desk .entry)) (now (path .entry))) ⌝ }
 {
     let id = opening::id_asked(desk);
     let leaf = request::new_leaf(desk);
-    let mark = request::mark_for(kind, marked);
-    accept(
-        desk,
-        path,
-        w,
-        v,
-        n,
-        id,
-        leaf,
-        mark,
-        over,
-        &at[..all],
-        &places[..all],
-        bank,
-    );
+    let mark = request::mark_for(request::kind_asked(desk), request::was_marked(desk));
+    let all = c.all;
+    let over = c.over;
+    let at = &at[..all];
+    let places = &places[..all];
+    accept(desk, path, w, v, n, id, leaf, mark, over, at, places, bank);
 }
 
 // A bank for the most blocks that one finish can meet.
@@ -157,46 +144,20 @@ fn place(
     ensures { λ r. ⌜ result r (now (desk .exit)) (now (path .exit)) (now («record» .exit)) ≡ finishBy (firstOf (fullRows real (now (desk .entry)) (now (path .entry)))) real (now (desk .entry)) (now (path .entry)) (now («record» .entry)) ⌝ }
 {
     let kind = request::kind_asked(desk);
-    let id = opening::id_asked(desk);
-    let marked = opening::is_marked(desk, id);
-    let carried = plan::record_carried(desk, path, w, v, n, kind, marked);
+    let marked = request::was_marked(desk);
+    let kept = plan::record_carried(desk, path, w, v, n);
     let mut bank = [0u8; BANK];
     let mut places = [0u16; placing::MOST_BLOCKS];
     let mut at = [0u8; placing::MOST_BLOCKS];
-    let c = plan::plan(
-        &mut bank,
-        &mut places,
-        &mut at,
-        desk,
-        path,
-        w,
-        v,
-        n,
-        kind,
-        marked,
-        &carried,
-    );
-    let over = c.over;
+    let c = plan::plan(&mut bank, &mut places, &mut at, desk, path, w, v, n, &kept);
+    let rest = c.over;
     let room = desk[desk::ROOM] as usize;
-    if room < over {
+    if room < rest {
         desk[desk::STATUS] = desk::FULL;
         return Finished::Refused(Refusal::Full);
     }
-    request::hand_out(record, &carried, kind, marked);
-    follow(
-        desk,
-        path,
-        w,
-        v,
-        n,
-        kind,
-        marked,
-        c.all,
-        over,
-        &bank,
-        &places,
-        &at,
-    );
+    request::hand_out(record, &kept, kind, marked);
+    follow(desk, path, w, v, n, c, &bank, &places, &at);
     request::answer_for(kind, marked)
 }
 

@@ -1,6 +1,5 @@
 // Steps 3 and 5: the plan for the blocks of path and stash, the requested one under its new leaf with the record that it carries on.
 use crate::request;
-use desk::Kind;
 use gathering::Request;
 use items::View;
 use placing::Counts;
@@ -9,7 +8,7 @@ ghost use mathlib.Core.Path.{_≡_};
 ghost use Prim.Native.Nat.{_*_};
 ghost use lib.ListN.{length};
 ghost use Rattle.sizes.specs.Sizes.{slotLen};
-ghost use Rattle.desk.specs.Readers.{kindAsked, idAsked, isMarked};
+ghost use Rattle.opening.specs.Walk.{OpenDesk};
 ghost use Rattle.items.specs.Real.{real};
 ghost use Rattle.placing.specs.Bank.{mostBlocks, Planned};
 ghost use Rattle.store.specs.Steps.{toPlace};
@@ -17,21 +16,12 @@ ghost use Rattle.store.specs.Ready.{Ready};
 ghost use Rattle.store.specs.Ready as ready;
 
 // The requested block.
-fn request_of(
-    desk: &[u8],
-    path: &[u8],
-    w: &[u8],
-    v: View,
-    n: usize,
-    kind: Kind,
-    marked: bool,
-) -> Request
-    requires { ⌜ Ready (now desk) (now path) v n (now w) ⌝ }
-    requires { ⌜ (kind ≡ kindAsked (now desk)) × (marked ≡ isMarked (now desk) (idAsked (now desk))) ⌝ }
+fn request_of(desk: &[u8]) -> Request
+    requires { ⌜ OpenDesk (now desk) ⌝ }
     ensures { λ r. ⌜ r ≡ ready.requestOf (now (desk .entry)) ⌝ }
 {
     Request {
-        there: request::is_there(kind, marked),
+        there: request::is_there(request::kind_asked(desk), request::was_marked(desk)),
         id: opening::id_asked(desk) as u16,
         leaf: request::new_leaf(desk),
     }
@@ -47,17 +37,14 @@ pub fn plan(
     w: &[u8],
     v: View,
     n: usize,
-    kind: Kind,
-    marked: bool,
     carried: &[u8],
 ) -> Counts
-    requires { ⌜ Ready (now desk) (now path) v n (now w) ⌝ }
-    requires { ⌜ (kind ≡ kindAsked (now desk)) × (marked ≡ isMarked (now desk) (idAsked (now desk))) ⌝ }
+    requires { ⌜ Ready (now desk) (now path) v n (now w) × (now carried ≡ ready.carriedOf (now desk) (now path)) ⌝ }
     requires { ⌜ (length (now bank) ≡ slotLen * mostBlocks) × ((length (now places) ≡ mostBlocks) × (length (now at) ≡ mostBlocks)) ⌝ }
-    requires { ⌜ now carried ≡ ready.carriedOf (now desk) (now path) ⌝ }
     ensures { λ r. ⌜ Planned (v .sizes) (v .leaf) (toPlace real (now (desk .entry)) (now (path .entry))) (r .all) (r .over) (now (bank .exit)) (now (places .exit)) (now (at .exit)) ⌝ }
 {
-    let r = request_of(desk, path, w, v, n, kind, marked);
+    let s = v.sizes;
+    let r = request_of(desk);
     let ids = desk::shape_of(desk).n;
     let count = opening::stash_count(desk);
     let slots = opening::stash_slots(desk);
@@ -65,7 +52,7 @@ pub fn plan(
         bank,
         places,
         at,
-        v.sizes,
+        s,
         v.leaf,
         ids,
         w,
@@ -84,14 +71,11 @@ pub fn record_carried<'a>(
     w: &'a [u8],
     v: View,
     n: usize,
-    kind: Kind,
-    marked: bool,
 ) -> [u8; Sizes::RECORD]
     requires { ⌜ Ready (now desk) (now path) v n (now w) ⌝ }
-    requires { ⌜ (kind ≡ kindAsked (now desk)) × (marked ≡ isMarked (now desk) (idAsked (now desk))) ⌝ }
     ensures { λ r. ⌜ r ≡ ready.carriedOf (now (desk .entry)) (now (path .entry)) ⌝ }
 {
     let mut bytes = [0u8; Sizes::RECORD];
-    words::copy(&mut bytes, 0, request::carried(desk, w, v, n, kind, marked));
+    words::copy(&mut bytes, 0, request::carried(desk, w, v, n));
     bytes
 }

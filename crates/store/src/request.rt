@@ -9,13 +9,13 @@ ghost use mathlib.Core.Bool.{true};
 ghost use Prim.Native.Nat.{ℕ, suc, _≤_};
 ghost use lib.ListN.{length};
 ghost use Rattle.sizes.specs.Sizes.{mostPath, recordLen};
-ghost use Rattle.desk.specs.Readers.{kindAsked, idAsked, newLeaf, recordAsked};
+ghost use Rattle.desk.specs.Readers.{kindAsked, idAsked, newLeaf, recordAsked, isMarked};
 ghost use Rattle.items.specs.Way.{Reached};
-ghost use Rattle.items.specs.Real.{real};
-ghost use Rattle.opening.specs.Opening.{viewOf, lookup, gathered};
+ghost use Rattle.opening.specs.Opening.{viewOf};
 ghost use Rattle.opening.specs.Walk.{OpenDesk, Unsealed};
 ghost use Rattle.store.specs.Steps.{answerFor, bufferFor, markFor};
 ghost use Rattle.store.specs.Carried.{isFound, isThere, carriedOn};
+ghost use Rattle.store.specs.Ready.{carriedOf};
 
 pub fn kind_asked(desk: &[u8]) -> Kind
     requires { ⌜ OpenDesk (now desk) ⌝ }
@@ -26,6 +26,14 @@ pub fn kind_asked(desk: &[u8]) -> Kind
         return Kind::Read;
     }
     Kind::Write
+}
+
+// Whether the id asked for was marked when it was asked for.
+pub fn was_marked(desk: &[u8]) -> bool
+    requires { ⌜ OpenDesk (now desk) ⌝ }
+    ensures { λ r. ⌜ r ≡ isMarked (now (desk .entry)) (idAsked (now (desk .entry))) ⌝ }
+{
+    opening::is_marked(desk, opening::id_asked(desk))
 }
 
 pub fn new_leaf(desk: &[u8]) -> u16
@@ -86,19 +94,12 @@ pub fn answer_for(kind: Kind, marked: bool) -> Finished
 }
 
 // The record that the requested block carries on: the one found for a read of a marked id, or else the request's.
-pub fn carried<'a>(
-    desk: &'a [u8],
-    w: &'a [u8],
-    v: View,
-    n: usize,
-    kind: Kind,
-    marked: bool,
-) -> &'a [u8]
+pub fn carried<'a>(desk: &'a [u8], w: &'a [u8], v: View, n: usize) -> &'a [u8]
     requires { ⌜ OpenDesk (now desk) × ((v ≡ viewOf (now desk)) × (n ≤ suc (v .sizes .height))) ⌝ }
     requires { ⌜ length (now w) ≡ mostPath ⌝ }
-    ensures { λ r. ⌜ ((path : List ℕ) → Reached v path n → Unsealed v path n (now (w .entry)) → now r ≡ carriedOn kind marked (lookup (idAsked (now (desk .entry))) (gathered real (now (desk .entry)) path)) (recordAsked (now (desk .entry)))) ⌝ }
+    ensures { λ r. ⌜ ((path : List ℕ) → Reached v path n → Unsealed v path n (now (w .entry)) → now r ≡ carriedOf (now (desk .entry)) path) ⌝ }
 {
-    if is_found(kind, marked) {
+    if is_found(kind_asked(desk), was_marked(desk)) {
         return opening::lookup(desk, w, v, n, opening::id_asked(desk));
     }
     record_asked(desk)

@@ -20,26 +20,34 @@ id-asked-requires c κs = search needs
 new-leaf-requires : tie.Need-new-leaf-requires
 new-leaf-requires c κs = search needs
 
+kind-asked-requires : tie.Need-kind-asked-requires
+kind-asked-requires c κs = search needs
+
+was-marked-requires : tie.Need-was-marked-requires
+was-marked-requires c κs = search needs
+
 mark-for-requires : tie.Need-mark-for-requires
 mark-for-requires c κs = search needs
 
-slice-aggregate-accept : tie.Need-slice-aggregate-accept
-slice-aggregate-accept c = let p = c .before .before .before .before .before .before .before .before .before .before .before .before .before .before .before .pre in simp length-take (omega (arith, p .1 .1 .1 .few, p .1 .1 .0))
+slice-aggregate-at : tie.Need-slice-aggregate-at
+slice-aggregate-at c = let p = c .before .before .before .before .before .before .before .before .before .before .before .before .before .before .before .before .pre in simp length-take (omega (arith, p .1 .1 .few, p .1 .0))
 
-slice-aggregate-accept-2 : tie.Need-slice-aggregate-accept-2
-slice-aggregate-accept-2 c = let p = c .before .before .before .before .before .before .before .before .before .before .before .before .before .before .before .before .pre in simp length-take (omega (arith, p .1 .1 .1 .few, p .1 .1 .0))
+slice-aggregate-places : tie.Need-slice-aggregate-places
+slice-aggregate-places c = let p = c .before .before .before .before .before .before .before .before .before .before .before .before .before .before .before .before .before .pre in simp length-take (omega (arith, p .1 .1 .few, p .1 .0))
 
 accept-requires : tie.Need-accept-requires
 accept-requires c κs =
-    let s = c .before .before .before .before .before .before .before .before .before .before .before .before .before .before .before .before in
+    let s = c .before .before .before .before .before .before .before .before .before .before .before .before .before .before .before .before .before .before .before .before in
     let a = s .args in
     let y = s .pre .0 in
     let d = a .desk .now in
-    let p = s .pre .1 .1 .1 in
+    let m = s .pre .1 .0 in
+    let p = s .pre .1 .1 in
+    let all = a .c .all in
     let z = view-size d (a .path .now) (a .v) (a .n) (a .w .now) y in
-    let i = c .before .before .before .before .before .before .before .before .id-asked .ensures in
-    let f : length (take (a .all) (a .places .now)) ≡ a .all = simp length-take (omega (arith, p .few, s .pre .1 .1 .0)) in
-    let g : length (take (a .all) (a .at .now)) ≡ a .all = simp length-take (omega (arith, p .few, s .pre .1 .1 .0)) in (
+    let i = c .before .before .before .before .before .before .before .before .before .before .before .before .id-asked .ensures in
+    let f : length (take all (a .places .now)) ≡ all = simp length-take (omega (arith, p .few, m)) in
+    let g : length (take all (a .at .now)) ≡ all = simp length-take (omega (arith, p .few, m)) in (
       (y .good .whole, (omega (arith, i, y .good .low), omega (arith, i, y .good .high))),
       (
         (record { range = view-range d (y .good) (a .v) (y .view); room = omega (arith, z) }, (z, copy-carries d (y .good) (a .v) (a .w .now) (y .view) (y .unsealed .size))),
@@ -47,7 +55,7 @@ accept-requires c κs =
           (view-leaf d (y .good) (a .v) (y .view), view-reached d (a .path .now) (a .v) (a .n) (a .w .now) y),
           (
             (omega (arith, f, g), p .inside),
-            plan-writable (a .v .sizes) (a .v .leaf) (toPlace real d (a .path .now)) (a .all) (a .over) (a .bank .now) (a .places .now) (a .at .now) p (roomOf d) (λ i. omega (arith, c .before .before .before .before .before .before .before .before .before .before .before .before .shared-slice-known .given i)) (s .pre .1 .1 .0 .0),
+            plan-writable (a .v .sizes) (a .v .leaf) (toPlace real d (a .path .now)) all (a .c .over) (a .bank .now) (a .places .now) (a .at .now) p (roomOf d) (λ i. omega (arith, c .before .before .before .before .before .before .before .before .before .before .before .before .before .before .before .before .shared-slice-known .given i)) (m .0),
           ),
         ),
       ),
@@ -64,13 +72,11 @@ same-length-3 c = search needs
 
 returns : tie.Need-returns
 returns c =
-    let s = c .before .before .before .before .before .before .before .before .before .before .before .before .before .before .before .before .before .before .before .before .before .before .before in
+    let s = c .before .before .before .before .before .before .before .before .before .before .before .before .before .before .before .before .before .before .before .before .before .before .before .before .before .before .before in
     let a = s .args in
-    let y = s .pre .0 in
-    let k = s .pre .1 .0 in
     let r = c .before .before .before .before .before .before .accept in
-    followed (a .desk .now) (a .path .now) (a .v) (c .before .before .before .before .before .before .before .before .before .before .before .before .before .before .before .id-asked .result) (c .before .before .before .before .before .before .before .before .before .before .before .before .before .new-leaf .result) (c .before .before .before .before .before .before .before .before .before .before .before .before .mark-for .result) (y .view) (c .before .before .before .before .before .before .before .before .before .before .before .before .before .before .before .id-asked .ensures) (c .before .before .before .before .before .before .before .before .before .before .before .before .before .new-leaf .ensures)
-    (c .before .before .before .before .before .before .before .before .before .before .before .before .mark-for .ensures ∙ ap₂ (λ (x : Kind) (m : Bool). markFor x m) (k .0) (k .1)) (a .all) (a .over) (a .bank .now) (a .places .now) (a .at .now) (r .last .1 .0) (r .last .0) (s .pre .1 .1 .1) (r .ensures)
+    followed (a .desk .now) (a .path .now) (a .v) (c .before .before .before .before .before .before .before .before .before .before .before .before .before .before .before .before .before .before .before .id-asked .result) (c .before .before .before .before .before .before .before .before .before .before .before .before .before .before .before .before .before .new-leaf .result) (c .before .before .before .before .before .before .before .before .before .before .before .before .mark-for .result) (s .pre .0 .view) (c .before .before .before .before .before .before .before .before .before .before .before .before .before .before .before .before .before .before .before .id-asked .ensures) (c .before .before .before .before .before .before .before .before .before .before .before .before .before .before .before .before .before .new-leaf .ensures)
+    (c .before .before .before .before .before .before .before .before .before .before .before .before .mark-for .ensures ∙ ap₂ (λ (x : Kind) (m : Bool). markFor x m) (c .before .before .before .before .before .before .before .before .before .before .before .before .before .before .before .kind-asked .ensures) (c .before .before .before .before .before .before .before .before .before .before .before .before .before .was-marked .ensures)) (a .c .all) (a .c .over) (a .bank .now) (a .places .now) (a .at .now) (r .last .1 .0) (r .last .0) (s .pre .1 .1) (r .ensures)
 
 pub follow-spec : {M : Type 1} → statement M
 follow-spec =
@@ -78,9 +84,11 @@ follow-spec =
     (tie.spec
     id-asked-requires
     new-leaf-requires
+    kind-asked-requires
+    was-marked-requires
     mark-for-requires
-    slice-aggregate-accept
-    slice-aggregate-accept-2
+    slice-aggregate-at
+    slice-aggregate-places
     accept-requires
     same-length
     same-length-2

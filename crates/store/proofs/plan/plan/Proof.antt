@@ -22,16 +22,16 @@ stash-slots-requires c κs = search needs
 
 arrange-requires : tie.Need-arrange-requires
 arrange-requires c κs =
-    let s = c .before .before .before .before .before .before .before .before .before .before .before .before .before .before in
+    let s = c .before .before .before .before .before .before .before .before .before .before .before .before .before .before .before in
     let a = s .args in
-    let y = s .pre .0 in (
+    let y = s .pre .0 .0 in (
       arranged (a .desk .now) (a .path .now) (a .v) (a .n) (a .w .now) y (a .v .sizes) (c .before .before .before .before .before .shape-of .result .n) (c .before .before .before .stash-slots .result .now) (c .before .before .before .before .stash-count .result) (c .before .before .before .before .before .before .request-of .result)
           (ap (λ (x : View). x .sizes) (y .view)) (ap (λ (h : Shape). h .n) (c .before .before .before .before .before .shape-of .ensures)) (c .before .before .before .stash-slots .ensures) (c .before .before .before .before .stash-count .ensures) (c .before .before .before .before .before .before .request-of .ensures),
       record {
-        bank-size = s .pre .1 .1 .0 .0;
-        places-size = s .pre .1 .1 .0 .1 .0;
-        at-size = s .pre .1 .1 .0 .1 .1;
-        record-size = ap length (s .pre .1 .1 .1) ∙ record-long (a .desk .now) (a .path .now) (a .v) (a .n) (a .w .now) y;
+        bank-size = s .pre .1 .0;
+        places-size = s .pre .1 .1 .0;
+        at-size = s .pre .1 .1 .1;
+        record-size = ap length (s .pre .0 .1) ∙ record-long (a .desk .now) (a .path .now) (a .v) (a .n) (a .w .now) y;
       },
     )
 
@@ -46,13 +46,13 @@ same-length-3 c = search needs
 
 returns : tie.Need-returns
 returns c =
-    let s = c .before .before .before .before .before .before .before .before .before .before .before .before .before .before .before .before .before .before .before .before .before in
+    let s = c .before .before .before .before .before .before .before .before .before .before .before .before .before .before .before .before .before .before .before .before .before .before in
     let a = s .args in
-    let y = s .pre .0 in
+    let y = s .pre .0 .0 in
     let r = c .before .before .before .before .before .before .arrange in
     planned (a .desk .now) (a .path .now) (a .v) (a .n) (a .w .now) y (a .v .sizes) (c .before .before .before .before .before .before .before .before .before .before .before .before .shape-of .result .n) (c .before .before .before .before .before .before .before .before .before .before .stash-slots .result .now) (c .before .before .before .before .before .before .before .before .before .before .before .stash-count .result) (c .before .before .before .before .before .before .before .before .before .before .before .before .before .request-of .result)
     (ap (λ (x : View). x .sizes) (y .view)) (ap (λ (h : Shape). h .n) (c .before .before .before .before .before .before .before .before .before .before .before .before .shape-of .ensures)) (c .before .before .before .before .before .before .before .before .before .before .stash-slots .ensures) (c .before .before .before .before .before .before .before .before .before .before .before .stash-count .ensures) (c .before .before .before .before .before .before .before .before .before .before .before .before .before .request-of .ensures)
-    (a .carried .now) (s .pre .1 .1 .1) (a .v .leaf) (r .result .all) (r .result .over) (r .last .0) (r .last .1 .0) (r .last .1 .1 .0) (r .ensures)
+    (a .carried .now) (s .pre .0 .1) (a .v .leaf) (r .result .all) (r .result .over) (r .last .0) (r .last .1 .0) (r .last .1 .1 .0) (r .ensures)
 
 pub plan-spec : {M : Type 1} → statement M
 plan-spec =

@@ -1,15 +1,9 @@
 -- `store::plan::record_carried` meets its contract: the record has the length of the array, and fills it. Assumes nothing.
-use mathlib.Core.Bool.{Bool}
-use mathlib.Core.Path.{_≡_, ap, ap₂, _∙_}
+use mathlib.Core.Path.{_≡_, ap, _∙_}
 use native.Mathlib.Omega.{arith}
 use lib.ListN.{length}
 use Rattle.words.specs.Bytes.{zeros}
 use Rattle.words.proofs.Splice.{splice-whole}
-use Rattle.desk.specs.declared.Kind.{Kind}
-use Rattle.desk.specs.Readers.{recordAsked}
-use Rattle.items.specs.Real.{real}
-use Rattle.store.specs.Steps.{recordFound}
-use Rattle.store.specs.Carried.{carriedOn}
 use Rattle.store.specs.Ready.{carriedOf}
 use Rattle.store.proofs.Ready.{view-reached, view-unsealed, record-long}
 use borrow.Author.Needs.{needs}
@@ -20,17 +14,16 @@ carried-is : (c : tie.After-carried) → c .carried .result .now ≡ carriedOf (
 carried-is c =
     let s = c .before .before .before .before .before in
     let a = s .args in
-    c .carried .ensures (a .path .now) (view-reached (a .desk .now) (a .path .now) (a .v) (a .n) (a .w .now) (s .pre .0)) (view-unsealed (a .desk .now) (a .path .now) (a .v) (a .n) (a .w .now) (s .pre .0))
-    ∙ ap₂ (λ (k : Kind) (m : Bool). carriedOn k m (recordFound real (a .desk .now) (a .path .now)) (recordAsked (a .desk .now))) (s .pre .1 .0) (s .pre .1 .1)
+    c .carried .ensures (a .path .now) (view-reached (a .desk .now) (a .path .now) (a .v) (a .n) (a .w .now) (s .pre)) (view-unsealed (a .desk .now) (a .path .now) (a .v) (a .n) (a .w .now) (s .pre))
 
 carried-length : (c : tie.After-carried) → length (c .carried .result .now) ≡ 64
-carried-length c = let s = c .before .before .before .before .before in let a = s .args in ap length (carried-is c) ∙ record-long (a .desk .now) (a .path .now) (a .v) (a .n) (a .w .now) (s .pre .0)
+carried-length c = let s = c .before .before .before .before .before in let a = s .args in ap length (carried-is c) ∙ record-long (a .desk .now) (a .path .now) (a .v) (a .n) (a .w .now) (s .pre)
 
 slice-aggregate-copy : tie.Need-slice-aggregate-copy
 slice-aggregate-copy c = search needs
 
 carried-requires : tie.Need-carried-requires
-carried-requires c κs = let s = c .before .before .before .before in let a = s .args in let y = s .pre .0 in ((y .good, (y .view, view-reached (a .desk .now) (a .path .now) (a .v) (a .n) (a .w .now) y .most)), y .unsealed .size)
+carried-requires c κs = let s = c .before .before .before .before in let a = s .args in let y = s .pre in ((y .good, (y .view, view-reached (a .desk .now) (a .path .now) (a .v) (a .n) (a .w .now) y .most)), y .unsealed .size)
 
 copy-requires : tie.Need-copy-requires
 copy-requires c κs = let e = carried-length c in omega arith
