@@ -61,12 +61,7 @@ once-distinct (x ∷ xs) o i zero h l = absurd (not-suc-le-zero h)
 once-distinct (x ∷ xs) o zero (suc j) h l = λ e. let p : 0 < times x xs = rw e (times-pos xs j (le-of-suc-le-suc l)) in omega (arith, once-head x xs o)
 once-distinct (x ∷ xs) o (suc i) (suc j) h l = once-distinct xs (once-tail x xs o) i j (le-of-suc-le-suc h) (le-of-suc-le-suc l)
 
--- ---- those that pass a test, of two lists and of a rearranged one
-
-pub those-append : (t : ℕ → Bool) (xs ys : List ℕ) → those t (xs ++ ys) ≡ those t xs ++ those t ys
-unfolding those
-those-append t [] ys = refl
-those-append t (x ∷ xs) ys = byCases (t x) (λ e. rw e (ap (λ (l : List ℕ). x ∷ l) (those-append t xs ys))) (λ e. rw e (those-append t xs ys))
+-- ---- those that pass a test, of a rearranged list
 
 pub those-perm : (t : ℕ → Bool) {xs ys : List ℕ} → List·Permᴰ xs ys → List·Permᴰ (those t xs) (those t ys)
 unfolding those
