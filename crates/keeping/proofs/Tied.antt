@@ -15,12 +15,12 @@ use Rattle.sizes.specs.declared.Sizes.{Sizes}
 use Rattle.sizes.specs.Sizes.{leaves, itemLen, itemAt, pathLen, bucketNo, placeIn, bucketAt}
 use Rattle.sizes.proofs.Lengths.{item-fits}
 use Rattle.bags.specs.Bags.{AllOf}
+use Rattle.bags.proofs.All.{all-map}
 use Rattle.items.specs.declared.View.{View}
 use Rattle.items.specs.Items.{Means, counterOf, flagOf, digestOf, masked, itemDigest}
 use Rattle.items.specs.Way.{item, side, reachable, digestDue}
 use Rattle.opening.specs.Opening.{foundAt}
 use Rattle.keeping.specs.Server.{Server, Returns, Agrees, orNil, blocksAt, leads}
-use Rattle.keeping.proofs.Lists.{all-map}
 use Rattle.keeping.proofs.Alike.{Alike, masked-alike, blocks-same}
 use Rattle.keeping.proofs.Standing.{half}
 

@@ -15,7 +15,7 @@ use Rattle.sizes.specs.declared.Outcome.the-variants.{Done}
 use Rattle.sizes.specs.Sizes.{leaves, recordLen, keyLen, pathLen, deskLen}
 use Rattle.sizes.proofs.Lengths.{range-sizes}
 use Rattle.bags.specs.Bags.{cnt}
-use Rattle.bags.proofs.Bags.{cnt-true}
+use Rattle.bags.proofs.Bags.{cnt-true, cnt-both}
 use Rattle.slots.specs.Slots.{Block}
 use Rattle.desk.specs.Layout.{idsOf}
 use Rattle.desk.specs.Readers.{writtenOf, isWritten, statusOf, idAsked}
@@ -25,6 +25,7 @@ use Rattle.items.specs.declared.View.{View}
 use Rattle.items.specs.Items.{Means, Sound}
 use Rattle.items.specs.Way.{reachable}
 use Rattle.opening.specs.Opening.{viewOf, isId}
+use Rattle.opening.proofs.Tests.{no-true}
 use Rattle.asks.specs.declared.Asked.{Asked}
 use Rattle.asks.specs.declared.Asked.the-variants as asked
 use Rattle.asks.specs.Ask.{recordFits, askOf, opened}
@@ -35,9 +36,11 @@ use Rattle.formats.proofs.Formatted.{new-written, new-status}
 use Rattle.store.specs.Steps.{newStash}
 use Rattle.keeping.specs.Server.{Agrees}
 use Rattle.keeping.specs.Table.{tableBlocks}
-use Rattle.keeping.proofs.Lists.{no-true, cnt-both}
 use Rattle.keeping.proofs.Held.{none-of, few}
-use Rattle.keeping.proofs.PlacedStep.{moved, after, bag}
+use Rattle.keeping.proofs.TableStep.{tableAfter}
+use Rattle.keeping.proofs.MovedStep.{Checked, moved}
+use Rattle.keeping.proofs.InvStep.{bag}
+use Rattle.keeping.proofs.Genuine.{asks-of, agrees-genuine}
 use Rattle.promises.specs.Stores.{ours, Start, formatFor, Request, Accepted}
 use Rattle.promises.specs.Steps.{State, begin, asks, afterAsk, askFor, finishFor, returned}
 use Rattle.promises.specs.Steps as steps
@@ -48,7 +51,6 @@ use Rattle.promises.proofs.Three.{passed, format-desk}
 use Rattle.promises.proofs.Moves.{leaf-asked}
 use Rattle.promises.proofs.Stands.{Stands, none-some, begin-stands}
 use Rattle.promises.proofs.AskStep.{ask-takes, opened-stands}
-use Rattle.promises.proofs.FinishStep.{asks-of}
 use Rattle.promises.proofs.Kept.{kept}
 use Rattle.promises.proofs.Two.{returned-agrees}
 
@@ -89,14 +91,19 @@ module _ (m : Means) (o : Sound m) (b : Start) (byte : b .room < 256) (st : Stat
   abbrev over : List Block
   over = newStash m desk path
 
-  busy : statusOf desk ≡ readyStatus → ⊥
-  busy e = omega arith
-
   pub one-left : length over ≤ 1
   one-left =
       let k = asks-of desk (v .good) s in
-      let d = moved m desk path (st .server) (st .table) (v .good) busy (v .inv) k fair in
-      let t = after m desk path (st .server) (st .table) (v .good) busy (v .inv) k fair in
+      let c : Checked m desk path =
+      record {
+        good = v .good;
+        status = s;
+        byte = omega (arith, v .room);
+        size = fair .size;
+        genuine = agrees-genuine m desk path (st .server) (st .table) (v .inv) k fair;
+      } in
+      let d = moved m desk path c in
+      let t = tableAfter desk (st .table) in
       let id = idAsked desk in
       let others : Block → Bool = λ c. not (isId id c) in
       let z : cnt others (tableBlocks d t (idsOf desk)) ≡ 0 =
@@ -105,13 +112,13 @@ module _ (m : Means) (o : Sound m) (b : Start) (byte : b .room < 256) (st : Stat
         arith,
         cnt-true over,
         cnt-both (isId id) over,
-        bag m desk path (st .server) (st .table) (v .good) busy (v .inv) k fair (isId id),
-        bag m desk path (st .server) (st .table) (v .good) busy (v .inv) k fair others,
+        bag m o desk path (st .server) (st .table) c (v .inv) fair (isId id),
+        bag m o desk path (st .server) (st .table) c (v .inv) fair others,
         few d t id (idsOf desk) .0,
         z,
       )
     where
-      only : (u : ℕ) (r : List ℕ) → after m desk path (st .server) (st .table) (v .good) busy (v .inv) (asks-of desk (v .good) s) fair u ≡ some r → not (eqb u (idAsked desk)) ≡ false
+      only : (u : ℕ) (r : List ℕ) → tableAfter desk (st .table) u ≡ some r → not (eqb u (idAsked desk)) ≡ false
       only u r h = byCases (eqb u (idAsked desk)) (λ e. ap not e) (λ e. absurd (none-some r (sym (empty u) ∙ (rw e at h))))
 
 -- ---- the first request

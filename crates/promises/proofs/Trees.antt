@@ -21,6 +21,7 @@ use Rattle.store.specs.declared.Finished.the-variants as finished
 use Rattle.store.specs.Steps.{newPath}
 use Rattle.store.specs.Finish.{finishOf, finishChecked}
 use Rattle.keeping.specs.Server.{Agrees, wrote}
+use Rattle.keeping.proofs.Genuine.{asks-of}
 use Rattle.promises.specs.Stores.{ours, Start, formatFor, Request}
 use Rattle.promises.specs.Steps.{State, begin, askFor, afterAsk, afterFinish}
 use Rattle.promises.specs.Trees.{TreeState, Turn, asking, serving, fetchFor, putIf, served, turn, turns, TreeReached, fetchedBy, DemandTwoTree}
@@ -29,7 +30,7 @@ use Rattle.promises.proofs.Three.{accept-record, accept-never, accept-d
 use Rattle.promises.proofs.Past.{Through, done-through}
 use Rattle.promises.proofs.Stands.{Stands, none-some, begin-stands}
 use Rattle.promises.proofs.AskStep.{ask-stands}
-use Rattle.promises.proofs.FinishStep.{asks-of, path-size, through-of, finish-stands}
+use Rattle.promises.proofs.FinishStep.{path-size, through-of, finish-stands}
 use Rattle.promises.proofs.Kept.{kept}
 use Rattle.promises.proofs.Two.{returned-agrees}
 use Rattle.promises.proofs.TreeHolds.{Holds, fetch-returns, fetch-length, put-holds}
