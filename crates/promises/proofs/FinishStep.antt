@@ -23,7 +23,6 @@ use Rattle.desk.specs.Readers.{sizesOf, heightOf, statusOf, kindAsked, idAsked,
 use Rattle.desk.specs.Status.{openStatus, mostStatus, atStatus, stopped, stoppedOr}
 use Rattle.desk.proofs.Known.{known}
 use Rattle.desk.proofs.Changed.{Changed, unchanged, status-changed, same-ids, same-room, same-sizes}
-use Rattle.desk.proofs.Frame.{good-sound, stop-sound, changed-good}
 use Rattle.items.specs.Items.{Means, Sound, counterOf}
 use Rattle.items.specs.Way.{item, reachable}
 use Rattle.opening.specs.Opening.{viewOf, lastCounter}
@@ -49,6 +48,7 @@ use Rattle.promises.proofs.One.{finished-refused, finished-done}
 use Rattle.promises.proofs.Three.{accept-record, accept-never, accept-done}
 use Rattle.promises.proofs.Exactly.{out-worn}
 use Rattle.promises.proofs.Past.{late-ready, Through, through-checked, done-through}
+use Rattle.promises.proofs.Finishes.{stop-good}
 use Rattle.promises.proofs.Stands.{Stands}
 use Rattle.promises.proofs.AskStep.{same-desk}
 
@@ -67,7 +67,7 @@ module _ (m : Means) (o : Sound m) (b : Start) (byte : b .room < 256) (st : Stat
   stopped-stands t low high s =
       let c = status-changed (known desk (v .good) .size) (unchanged desk) t in
       record {
-        good = changed-good (v .good) c (stop-sound t (good-sound desk (v .good)) (λ e. omega arith) (λ e. omega arith) high);
+        good = stop-good desk t low high s (v .good);
         inv = inv-kept c refl refl refl refl m (st .server) (st .table) (v .inv);
         sizes = same-sizes (c .same) ∙ v .sizes;
         key = c .same .key ∙ v .key;

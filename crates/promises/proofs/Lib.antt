@@ -6,6 +6,8 @@ pub mod Three
 pub mod Stands
 pub mod AskStep
 pub mod Past
+pub mod Unlooked
+pub mod Finishes
 pub mod FinishStep
 pub mod Kept
 pub mod Two

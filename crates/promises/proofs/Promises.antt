@@ -4,6 +4,7 @@ use Rattle.promises.specs.Figures.{figures}
 use Rattle.promises.specs.Promises.{Promises}
 use Rattle.promises.specs.Wrong.{ShutOut}
 use Rattle.promises.proofs.One.{demand-one}
+use Rattle.promises.proofs.Finishes.{keeps-good, each-finish}
 use Rattle.promises.proofs.Exactly.{exactly}
 use Rattle.promises.proofs.Two.{demand-two, demand-two-reachable}
 use Rattle.promises.proofs.Trees.{demand-two-tree}
@@ -27,6 +28,8 @@ pub promises : (m : Means) → Sound m → Promises m
 promises m o =
     record {
       one = demand-one m;
+      keeps-good = keeps-good m o;
+      each-finish = each-finish m o;
       exactly = exactly m;
       two = demand-two m o;
       two-reachable = demand-two-reachable m o;

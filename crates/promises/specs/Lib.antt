@@ -1,6 +1,7 @@
 pub mod Stores
 pub mod Steps
 pub mod DemandOne
+pub mod Finishes
 pub mod DemandTwo
 pub mod Trees
 pub mod DemandThree

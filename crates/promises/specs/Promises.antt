@@ -2,6 +2,7 @@
 use Rattle.items.specs.Items.{Means}
 use Rattle.promises.specs.Stores.{ours}
 use Rattle.promises.specs.DemandOne.{DemandOne}
+use Rattle.promises.specs.Finishes.{KeepsGood, EachFinish}
 use Rattle.promises.specs.DemandTwo.{Exactly, DemandTwo, DemandTwoReachable}
 use Rattle.promises.specs.Trees.{DemandTwoTree}
 use Rattle.promises.specs.DemandThree.{DemandThree, ShownOnce, ShownLast}
@@ -12,6 +13,9 @@ use Rattle.promises.specs.Figures.{Figures}
 pub record Promises (m : Means) : Type 0 where
   -- 1: one result on every input, refusals in order, what they change
   pub one : DemandOne m (ours m)
+  -- of each call, whatever path comes back: a good desk stays good; what a finish reads, and what it leaves
+  pub keeps-good : KeepsGood (ours m)
+  pub each-finish : EachFinish m (ours m)
   -- 2: Forged, Worn and Full exactly; a plain table over an honest server, over one that alters only what nobody looks at, and over fetch and put
   pub exactly : Exactly m (ours m)
   pub two : DemandTwo m (ours m)
