@@ -181,6 +181,10 @@ module _ (m : Means) (o : Sound m) (b : Start) (byte : b .room < 256) (st : Stat
   kept hands agree =
       record {
         good = v .good;
+        sizes = v .sizes;
+        key = v .key;
+        ids = v .ids;
+        room = v .room;
         opens = λ s. let q = v .opens s in (q .request, q .is, q .holds);
         is-ready = v .is-ready;
         takes = ask-takes m b st v;

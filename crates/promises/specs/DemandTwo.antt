@@ -10,7 +10,7 @@ use Rattle.sizes.specs.declared.Refusal.the-variants.{Forged, Worn, Full}
 use Rattle.sizes.specs.Sizes.{recordLen, leaves, itemOf, pathLen, bucketAt}
 use Rattle.bags.specs.Bags.{those}
 use Rattle.slots.specs.Slots.{Block}
-use Rattle.desk.specs.Layout.{roomOf}
+use Rattle.desk.specs.Layout.{idsOf, roomOf}
 use Rattle.desk.specs.Readers.{sizesOf, heightOf, keyOf, rootOf, isWritten, statusOf, isMarked, leafAsked, kindAsked, idAsked, newLeaf, recordAsked, stashOf}
 use Rattle.desk.specs.Status.{readyStatus, openStatus}
 use Rattle.desk.specs.Good.{goodDesk}
@@ -82,6 +82,11 @@ pub record Writes (m : Means) (desk path new : List ℕ) (k : ℕ) : Type 0 wher
 
 pub record Kept (m : Means) (store : Store) (b : Start) (hands : List ℕ → Type 0) (st : State) : Type 0 where
   pub good : goodDesk (st .desk) ≡ true
+  -- its sizes, key, N and S are those that it was formatted with
+  pub sizes : sizesOf (st .desk) ≡ b .sizes
+  pub key : keyOf (st .desk) ≡ b .key
+  pub ids : idsOf (st .desk) ≡ b .ids
+  pub room : roomOf (st .desk) ≡ b .room
   -- an open desk has a request, and body (c) holds it; a ready desk has none
   pub opens : statusOf (st .desk) ≡ openStatus → (r : Request) × (st .open-request ≡ some r) × Holds (st .desk) r
   pub is-ready : statusOf (st .desk) ≡ readyStatus → st .open-request ≡ none
