@@ -10,7 +10,7 @@ use Rattle.sizes.specs.declared.Refusal.{Refusal}
 use Rattle.sizes.specs.declared.Refusal.the-variants.{BadDesk}
 use Rattle.sizes.specs.declared.Outcome.{Outcome}
 use Rattle.sizes.specs.declared.Outcome.the-variants.{Done, Refused}
-use Rattle.sizes.specs.Refusals.{firstOf}
+use Rattle.sizes.specs.Refusals.{numberOf, firstOf}
 use Rattle.promises.specs.DemandOne.{First, ByRows}
 
 pub done-refused : (q : Refusal) → Done ≡ Refused q → ⊥
@@ -57,15 +57,21 @@ of-none : (rows : List (Bool × Refusal)) → ((i : ℕ) → i < length rows →
 of-none [] f = refl
 of-none (row ∷ rows) f = rw (f 0 (omega arith)) (of-none rows (λ i l. f (suc i) (omega arith)))
 
--- an answer that is refused exactly as the outcome of the rows is
-pub reads : {A : Type 0} (rows : List (Bool × Refusal)) (answer : A) (refused : Refusal → A) (o : Outcome) → o ≡ firstOf rows
-    → ((q : Refusal) → answer ≡ refused q → o ≡ Refused q) → ((q : Refusal) → o ≡ Refused q → answer ≡ refused q) → ByRows rows answer refused
-reads rows answer refused o e f g =
+-- an answer that is refused exactly as the outcome of the rows is, and has its number
+pub reads : {A : Type 0} (rows : List (Bool × Refusal)) (answer : A) (refused : Refusal → A) (number : A → ℕ) (o : Outcome) → o ≡ firstOf rows
+    → ((q : Refusal) → answer ≡ refused q → o ≡ Refused q) → ((q : Refusal) → o ≡ Refused q → answer ≡ refused q)
+    → ((q : Refusal) → number (refused q) ≡ numberOf q) → (o ≡ Done → number answer ≡ 0) → ByRows rows answer refused number
+reads rows answer refused number o e f g n z =
     record {
-      first = λ q. ((λ h. first-of rows q (sym e ∙ f q h)), λ k. g q (e ∙ of-first rows q (k .row) (k .inside) (k .applies) (k .none-before)));
+      first = λ q. ((λ h. first-of rows q (sym e ∙ f q h)), back q);
       none = ((λ h. none-of rows (sym e ∙ done o (λ q k. h q (g q k)))), λ h q k. done-refused q (sym (e ∙ of-none rows h) ∙ f q k));
+      numbered = λ q k. ap number (back q k) ∙ n q;
+      no-number = λ h. z (e ∙ of-none rows h);
     }
   where
     done : (o : Outcome) → ((q : Refusal) → o ≡ Refused q → ⊥) → o ≡ Done
     done Done h = refl
     done (Refused q) h = absurd (h q refl)
+
+    back : (q : Refusal) → First rows q → answer ≡ refused q
+    back q k = g q (e ∙ of-first rows q (k .row) (k .inside) (k .applies) (k .none-before))
