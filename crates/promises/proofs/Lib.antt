@@ -13,6 +13,7 @@ pub mod Kept
 pub mod Two
 pub mod TreeHolds
 pub mod Trees
+pub mod Requests
 pub mod Exists
 pub mod More
 pub mod Wrong

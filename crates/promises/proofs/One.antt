@@ -69,8 +69,8 @@ only-status Forged desk = (λ h. absurd (omega arith), λ h. refl)
 only-status Worn desk = (λ h. absurd (omega arith), λ h. refl)
 only-status Full desk = (λ h. absurd (omega arith), λ h. refl)
 
-one : {R : Type 0} (determined : R) → One determined
-one determined r r′ p q = p ∙ sym q
+pub once : {R : Type 0} (determined : R) → One determined
+once determined r r′ p q = p ∙ sym q
 
 -- ---- entry by entry
 
@@ -127,20 +127,20 @@ demand-one m =
     record {
       format-by-rows = format-read;
       format-refuses = format-same;
-      format-once = λ b lent. one (formatFor b lent);
+      format-once = λ b lent. once (formatFor b lent);
       ask-by-rows = ask-read;
       ask-refuses = ask-same;
-      ask-once = λ desk kind id leaf rec. one (askOf desk kind id leaf rec);
+      ask-once = λ desk kind id leaf rec. once (askOf desk kind id leaf rec);
       finish-by-rows = finish-read m;
       finish-refuses = finish-same m;
-      finish-once = λ desk path buffer. one (finishOf m desk path buffer);
+      finish-once = λ desk path buffer. once (finishOf m desk path buffer);
       fetch-by-rows = tree-read;
       fetch-refuses = λ s leaf tree path q h. rw h (refl, refl);
-      fetch-once = λ s leaf tree path. one (fetchOf s leaf tree path);
+      fetch-once = λ s leaf tree path. once (fetchOf s leaf tree path);
       put-by-rows = tree-read;
       put-refuses = λ s leaf tree path q h. rw h (refl, refl);
-      put-once = λ s leaf tree path. one (putOf s leaf tree path);
-      good-once = λ desk. one (goodDesk desk);
-      digest-once = λ text. one (m .digest text);
-      cipher-once = λ key nonce text. one (m .cipher key nonce text);
+      put-once = λ s leaf tree path. once (putOf s leaf tree path);
+      good-once = λ desk. once (goodDesk desk);
+      digest-once = λ text. once (m .digest text);
+      cipher-once = λ key nonce text. once (m .cipher key nonce text);
     }

@@ -8,6 +8,7 @@ use Rattle.promises.proofs.Finishes.{keeps-good, each-finish}
 use Rattle.promises.proofs.Exactly.{exactly}
 use Rattle.promises.proofs.Two.{demand-two, demand-two-reachable}
 use Rattle.promises.proofs.Trees.{demand-two-tree}
+use Rattle.promises.proofs.Requests.{whole-requests}
 use Rattle.promises.proofs.Three.{demand-three, shown-once, shown-last-drawn}
 use Rattle.promises.proofs.Exists.{exists}
 use Rattle.promises.proofs.Wrong.{refusing-out, denying-out, idle-out, inventing-out, zeroing-out}
@@ -34,6 +35,7 @@ promises m o =
       two = demand-two m o;
       two-reachable = demand-two-reachable m o;
       two-tree = demand-two-tree m o;
+      requests = whole-requests;
       three = demand-three m (o .digest-length) m (o .digest-length);
       shown-once = shown-once m (o .digest-length);
       shown-last = shown-last-drawn m (o .digest-length);

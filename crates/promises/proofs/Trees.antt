@@ -49,10 +49,10 @@ module _ (m : Means) (o : Sound m) (b : Start) (byte : b .room < 256) where
     abbrev st : State
     st = ts .state
 
-    range : InRange (b .sizes)
+    pub range : InRange (b .sizes)
     range = subst (λ (s : Sizes). InRange s) (v .stands .sizes) (known (st .desk) (v .stands .good) .head .sizes)
 
-    leaf-low : statusOf (st .desk) ≡ openStatus → st .leaf-asked < leaves (b .sizes)
+    pub leaf-low : statusOf (st .desk) ≡ openStatus → st .leaf-asked < leaves (b .sizes)
     leaf-low s =
         subst (λ (z : Sizes). st .leaf-asked < leaves z) (v .stands .sizes)
         (subst (λ (l : ℕ). l < leaves (sizesOf (st .desk))) (sym (v .stands .opens s .leaf)) (asks-of (st .desk) (v .stands .good) s .low))

@@ -4,6 +4,7 @@ pub mod DemandOne
 pub mod Finishes
 pub mod DemandTwo
 pub mod Trees
+pub mod Requests
 pub mod DemandThree
 pub mod Exists
 pub mod Wrong

@@ -5,6 +5,7 @@ use Rattle.promises.specs.DemandOne.{DemandOne}
 use Rattle.promises.specs.Finishes.{KeepsGood, EachFinish}
 use Rattle.promises.specs.DemandTwo.{Exactly, DemandTwo, DemandTwoReachable}
 use Rattle.promises.specs.Trees.{DemandTwoTree}
+use Rattle.promises.specs.Requests.{WholeRequests}
 use Rattle.promises.specs.DemandThree.{DemandThree, ShownOnce, ShownLast}
 use Rattle.promises.specs.Exists.{Exists}
 use Rattle.promises.specs.Wrong.{ShutOut}
@@ -21,6 +22,8 @@ pub record Promises (m : Means) : Type 0 where
   pub two : DemandTwo m (ours m)
   pub two-reachable : DemandTwoReachable m (ours m)
   pub two-tree : DemandTwoTree m (ours m)
+  -- one whole request, as one call, is what its steps are
+  pub requests : WholeRequests
   -- 3: what is shown does not depend on what is asked for; no draw is shown twice; the leaf shown is the last one drawn for the id
   pub three : DemandThree (ours m) (ours m)
   pub shown-once : ShownOnce (ours m)
