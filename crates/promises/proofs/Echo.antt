@@ -1,6 +1,6 @@
 -- A store that works at the first finish and then only echoes is shut out by demand 2: a record is written, and read back over an honest server. Assumes
 -- nothing but what is asked of digest and cipher.
-use Prim.Native.Nat.{ℕ, _≤_}
+use Prim.Native.Nat.{ℕ, _-_, _≤_}
 use mathlib.Core.Path.{_≡_, refl, sym, ap, subst, _∙_}
 use mathlib.Core.Bool.{Bool, true}
 use mathlib.Core.Option.{some}
@@ -46,9 +46,9 @@ use Rattle.promises.proofs.Wrong.{small, lent, small-proper, writing, w
 abbrev reading : Request
 reading = record { kind = Read; id = 1; leaf = 1; content = [] }
 
--- a buffer that does not hold zeros
+-- a record buffer that does not hold zeros
 abbrev ones : List ℕ
-ones = 1 ∷ []
+ones = 1 ∷ zeros (recordLen - 1)
 
 module _ (m : Means) (o : Sound m) (d : DemandTwo m (echoing m)) where
   abbrev one : State

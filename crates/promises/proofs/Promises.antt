@@ -11,7 +11,7 @@ use Rattle.promises.proofs.Trees.{demand-two-tree}
 use Rattle.promises.proofs.Requests.{whole-requests}
 use Rattle.promises.proofs.Three.{demand-three, shown-once, shown-last-drawn}
 use Rattle.promises.proofs.Exists.{exists}
-use Rattle.promises.proofs.Wrong.{refusing-out, denying-out, idle-out, inventing-out, zeroing-out}
+use Rattle.promises.proofs.Wrong.{refusing-out, denying-out, idle-out, inventing-out, zeroing-out, zeroing-three}
 use Rattle.promises.proofs.Echo.{echoing-out}
 
 shut-out : (m : Means) → Sound m → ShutOut m
@@ -23,6 +23,7 @@ shut-out m o =
       only-echoes = echoing-out m o;
       invents-counters = inventing-out m o;
       asks-for-zero = zeroing-out m o;
+      zero-is-no-leak = zeroing-three m (o .digest-length);
     }
 
 pub promises : (m : Means) → Sound m → Promises m
