@@ -18,5 +18,6 @@ pub mod Exists
 pub mod More
 pub mod Wrong
 pub mod Echo
+pub mod Figures
 pub mod Promises
 pub mod Real

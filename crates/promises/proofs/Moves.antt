@@ -1,11 +1,10 @@
 -- A request that is accepted, whatever path came back, sets exactly its id's position, to the draw. Assumes nothing but that a digest has 32 bytes.
-use Prim.Native.Nat.{ℕ, zero, suc, pred, _+_, _<_, _≤_}
+use Prim.Native.Nat.{ℕ, pred, _+_, _<_, _≤_}
 use mathlib.Core.Path.{_≡_, refl, sym, ap, _∙_}
 use mathlib.Core.Logic.{_≢_, _⊎_, inl, inr, ⊎-elim}
 use mathlib.Core.Bool.{cond}
 use mathlib.Core.List.{List, map}
 use native.Mathlib.Omega.{arith}
-use native.Mathlib.Nat.{not-suc-le-zero}
 use lib.ListN.{length, getD, set, length-append, length-take, length-map, length-set}
 use lib.Seq.{getD-set-same, getD-set-other, ext-getD}
 use lib.Dec.{eqb}
@@ -30,7 +29,7 @@ use Rattle.items.specs.Items.{Means, masked}
 use Rattle.opening.specs.Opening.{viewOf}
 use Rattle.writing.specs.Writing.{written}
 use Rattle.draws.specs.Draws.{from}
-use Rattle.draws.proofs.Numbers.{length-from, getD-map}
+use Rattle.draws.proofs.Numbers.{length-from, getD-map, getD-from}
 use Rattle.asks.specs.declared.Asked.the-variants as asked
 use Rattle.asks.specs.Ask.{askOf, opened}
 use Rattle.asks.proofs.Passed.{AskPassed}
@@ -170,11 +169,6 @@ module _ (desk : List ℕ) (kind : Kind) (u x : ℕ) (content : List ℕ) (p : A
 
 abbrev pub positions : ℕ → List ℕ → List ℕ
 positions n desk = map (positionOf desk) (from 1 n)
-
-getD-from : (a n i : ℕ) → i < n → getD (from a n) i 0 ≡ a + i
-getD-from a zero i h = absurd (not-suc-le-zero h)
-getD-from a (suc n) zero h = omega arith
-getD-from a (suc n) (suc i) h = getD-from (suc a) n i (omega arith) ∙ omega arith
 
 pub length-positions : (n : ℕ) (desk : List ℕ) → length (positions n desk) ≡ n
 length-positions n desk = length-map (from 1 n) (positionOf desk) ∙ length-from 1 n

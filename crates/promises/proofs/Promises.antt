@@ -1,6 +1,6 @@
 -- All that is promised holds, whatever digest of 32 bytes and whatever cipher that keeps the length and undoes itself. Assumes nothing else.
 use Rattle.items.specs.Items.{Means, Sound}
-use Rattle.promises.specs.Figures.{figures}
+use Rattle.draws.proofs.Same.{rearrange-order}
 use Rattle.promises.specs.Promises.{Promises}
 use Rattle.promises.specs.Wrong.{ShutOut}
 use Rattle.promises.proofs.One.{demand-one}
@@ -9,10 +9,11 @@ use Rattle.promises.proofs.Exactly.{exactly}
 use Rattle.promises.proofs.Two.{demand-two, demand-two-reachable}
 use Rattle.promises.proofs.Trees.{demand-two-tree}
 use Rattle.promises.proofs.Requests.{whole-requests}
-use Rattle.promises.proofs.Three.{demand-three, shown-once, shown-last-drawn}
+use Rattle.promises.proofs.Three.{demand-three, leaf-at, shown-once, shown-last-drawn}
 use Rattle.promises.proofs.Exists.{exists}
 use Rattle.promises.proofs.Wrong.{refusing-out, denying-out, idle-out, inventing-out, zeroing-out, zeroing-three}
 use Rattle.promises.proofs.Echo.{echoing-out}
+use Rattle.promises.proofs.Figures.{figures}
 
 shut-out : (m : Means) → Sound m → ShutOut m
 shut-out m o =
@@ -38,9 +39,11 @@ promises m o =
       two-tree = demand-two-tree m o;
       requests = whole-requests;
       three = demand-three m (o .digest-length) m (o .digest-length);
+      in-order = rearrange-order;
+      shown-by-draws = λ n. leaf-at m (o .digest-length) n;
       shown-once = shown-once m (o .digest-length);
       shown-last = shown-last-drawn m (o .digest-length);
       exists = exists m o;
       shut-out = shut-out m o;
-      figures = figures;
+      figures = figures m;
     }

@@ -123,7 +123,7 @@ module _ (m : Means) (digests : (xs : List ℕ) → length (m .digest xs) ≡ di
       (k .0, k .1 ∙ ap (λ (ps : List ℕ). shown ps us (drop n ds)) p)
 
   -- one leaf of it
-  leaf-at : (us ds : List ℕ) → AllGood n us → (r : Run n ds) → (j : ℕ) → j < length (leavesOf (ours m) n us ds r)
+  pub leaf-at : (us ds : List ℕ) → AllGood n us → (r : Run n ds) → (j : ℕ) → j < length (leavesOf (ours m) n us ds r)
       → getD (leavesOf (ours m) n us ds r) j 0 ≡ getD (leavesShown n us ds) j 0
   leaf-at us ds g r j k =
       let p = run-begins us ds g r in

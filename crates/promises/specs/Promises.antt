@@ -6,7 +6,7 @@ use Rattle.promises.specs.Finishes.{KeepsGood, EachFinish}
 use Rattle.promises.specs.DemandTwo.{Exactly, DemandTwo, DemandTwoReachable}
 use Rattle.promises.specs.Trees.{DemandTwoTree}
 use Rattle.promises.specs.Requests.{WholeRequests}
-use Rattle.promises.specs.DemandThree.{DemandThree, ShownOnce, ShownLast}
+use Rattle.promises.specs.DemandThree.{DemandThree, InOrder, ShownByDraws, ShownOnce, ShownLast}
 use Rattle.promises.specs.Exists.{Exists}
 use Rattle.promises.specs.Wrong.{ShutOut}
 use Rattle.promises.specs.Figures.{Figures}
@@ -26,10 +26,12 @@ pub record Promises (m : Means) : Type 0 where
   pub requests : WholeRequests
   -- 3: what is shown does not depend on what is asked for; no draw is shown twice; the leaf shown is the last one drawn for the id
   pub three : DemandThree (ours m) (ours m)
+  pub in-order : InOrder
+  pub shown-by-draws : ShownByDraws (ours m)
   pub shown-once : ShownOnce (ours m)
   pub shown-last : ShownLast (ours m)
   -- there are runs, and wrong stores are shut out
   pub exists : Exists (ours m)
   pub shut-out : ShutOut m
   -- the worked figures
-  pub figures : Figures
+  pub figures : Figures m (ours m)
