@@ -14,6 +14,7 @@ pub mod Two
 pub mod TreeHolds
 pub mod Trees
 pub mod Requests
+pub mod Room
 pub mod Exists
 pub mod More
 pub mod Wrong
