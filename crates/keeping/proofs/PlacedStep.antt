@@ -1,7 +1,7 @@
 -- The blocks that a finish over a path that passes the checks places or keeps in the stash: each has an id of 1 to N that is marked, lies under its new
 -- position and has a record of full length, so that slots can hold it, its bucket lies on its way, and a good stash may have it. Assumes nothing but what is
 -- asked of a cipher.
-use Prim.Native.Nat.{ℕ, suc, _+_, _-_, _≤_}
+use Prim.Native.Nat.{ℕ, zero, suc, _+_, _-_, _≤_}
 use mathlib.Core.Path.{_≡_, refl, sym, ap₂, subst, _∙_}
 use mathlib.Core.Logic.{_≢_}
 use mathlib.Core.Bool.{Bool, true, false, not}
@@ -33,10 +33,10 @@ use Rattle.opening.specs.Walk.{OpenDesk}
 use Rattle.opening.proofs.Open.{good-open}
 use Rattle.opening.proofs.Genuine.{checks-genuine}
 use Rattle.opening.proofs.Gathered.{gathered-placeable, gathered-stands, gathered-long, record-length}
-use Rattle.placing.specs.Placing.{onWay, sorted}
+use Rattle.placing.specs.Placing.{onWay}
 use Rattle.placing.specs.Ids as ids
 use Rattle.placing.proofs.Rising.{sorted-rising}
-use Rattle.placing.proofs.Placing.{placed-within, placed-small, remaining-rising}
+use Rattle.placing.proofs.Placing.{placed-within, placed-small, placed-rising, remaining-rising}
 use Rattle.store.specs.Steps as steps
 use Rattle.store.specs.Steps.{markFor, carried, under, wasMarked, recordFound, placed, newStash}
 use Rattle.keeping.proofs.Levels.{cnt-one, within-length, within-at, on-place}
@@ -176,7 +176,7 @@ module _ (m : Means) (o : Sound m) (desk path : List ℕ) (c : Checked m desk pa
   pub stash-placed : AllPlaced (shapeOf desk) (partsMoved m desk path c .places) (newStash m desk path)
   stash-placed = fine-placed (newStash m desk path) stash-fine
 
-  -- ---- the new stash rises
+  -- ---- by rising id, in the stash and in each bucket
 
   under-few : (u : ℕ) (kind : Kind) (marked : Bool) → cnt (isId u) (under id (newLeaf desk) (carried kind marked (recordFound m desk path) (recordAsked desk))) ≤ bit (eqb id u)
   under-few u Read true = omega arith
@@ -201,11 +201,22 @@ module _ (m : Means) (o : Sound m) (desk path : List ℕ) (c : Checked m desk pa
   same-rising k [] r = tt
   same-rising k (b ∷ bs) r = (r .0, same-rising (b .id) bs (r .1))
 
-  pub stash-rising : stash.Rising 0 (newStash m desk path)
+  place-rising : ids.Rising 0 (steps.toPlace m desk path)
   unfolding steps.toPlace
-  stash-rising =
+  place-rising =
       let low : AllOf (λ b. 1 ≤ b .id) now = all-map (λ b. fine b ≡ true) (λ b. 1 ≤ b .id) (λ b e. leb-true 1 (b .id) (each (tests b) e .0)) now now-fine in
-      same-rising 0 (newStash m desk path) (remaining-rising (sizesOf desk) (leafAsked desk) (sorted now) (sorted-rising now low now-once))
+      sorted-rising now low now-once
+
+  pub stash-rising : stash.Rising 0 (newStash m desk path)
+  stash-rising = same-rising 0 (newStash m desk path) (remaining-rising (sizesOf desk) (leafAsked desk) (steps.toPlace m desk path) place-rising)
+
+  pub buckets-rising : (h : ℕ) → ids.Rising 0 (getD (placed m desk path) h [])
+  buckets-rising h = each-rises (placed m desk path) h (placed-rising (sizesOf desk) (leafAsked desk) (steps.toPlace m desk path) place-rising)
+    where
+      each-rises : (bss : List (List Block)) (h : ℕ) → ids.AllRising 0 bss → ids.Rising 0 (getD bss h [])
+      each-rises [] h r = tt
+      each-rises (bs ∷ bss) zero r = r .0
+      each-rises (bs ∷ bss) (suc h) r = each-rises bss h (r .1)
 
   -- ---- the buckets
 

@@ -20,7 +20,7 @@ use Rattle.desk.specs.Layout.{eAt, idsOf, shapeOf}
 use Rattle.desk.specs.Readers.{sizesOf, heightOf, keyOf, rootOf, isWritten, statusOf, kindAsked, idAsked, leafAsked, stashCount, stashOf}
 use Rattle.desk.specs.Status.{readyStatus, openStatus}
 use Rattle.desk.proofs.Exactly.{good-conditions}
-use Rattle.items.specs.Items.{Means, Sound, counterOf, flagOf, digestOf, itemDigest, blocksIn}
+use Rattle.items.specs.Items.{Means, Sound, counterOf, flagOf, digestOf, itemDigest, blocksIn, slotsOpened}
 use Rattle.items.specs.Way.{bucket}
 use Rattle.opening.specs.Opening.{viewOf, isId, Genuine}
 use Rattle.opening.proofs.Tests.{no-true}
@@ -34,8 +34,8 @@ use Rattle.keeping.specs.Table.{isHeld, plainAnswer, plainBuffer, placeOf, ever
 use Rattle.keeping.proofs.Genuine.{asks-of, agrees-genuine}
 use Rattle.keeping.proofs.Plain.{answers-plain}
 use Rattle.keeping.proofs.OnePlace.{one-place, how-many}
-use Rattle.keeping.proofs.PlacedStep.{laid}
-use Rattle.keeping.proofs.Written.{Lies, newItem, digestBelow, item-new, flag-new, digest-new, blocks-new, counter-new}
+use Rattle.keeping.proofs.PlacedStep.{laid, buckets-rising}
+use Rattle.keeping.proofs.Written.{Lies, newItem, digestBelow, item-new, flag-new, digest-new, blocks-new, counter-new, slots-new}
 use Rattle.keeping.proofs.TreeStep.{count-low}
 use Rattle.promises.specs.Stores.{ours, Start, Request, Accepted}
 use Rattle.promises.specs.Steps.{State}
@@ -139,6 +139,8 @@ module _ (m : Means) (o : Sound m) (b : Start) (byte : b .room < 256) (st : Stat
           (fresh m o b byte st v path buffer through fair) k h in
           record {
             counter = ap counterOf (item-is k h) ∙ counter-new m o (viewOf desk) path (placed m desk path) (fair .size) lies k h low;
+            slots = ap (slotsOpened m s (keyOf desk) (bucket (viewOf desk) k)) (item-is k h) ∙ slots-new m o (viewOf desk) path (placed m desk path) (fair .size) lies k h;
+            rising = buckets-rising m o desk path (checked m o b byte st v path buffer through fair) (heightOf desk - k);
             blocks = ap (blocksIn m s (keyOf desk) (bucket (viewOf desk) k)) (item-is k h) ∙ blocks-new m o (viewOf desk) path (placed m desk path) (fair .size) lies k h;
             flags =
                 λ l side j. ap (λ (x : List ℕ). flagOf s x side) (item-is k h) ∙ flag-new m o (viewOf desk) path (placed m desk path) (fair .size) lies k side l j;

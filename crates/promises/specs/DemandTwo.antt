@@ -14,9 +14,10 @@ use Rattle.desk.specs.Layout.{idsOf, roomOf}
 use Rattle.desk.specs.Readers.{sizesOf, heightOf, keyOf, rootOf, isWritten, statusOf, isMarked, leafAsked, kindAsked, idAsked, newLeaf, recordAsked, stashOf}
 use Rattle.desk.specs.Status.{readyStatus, openStatus}
 use Rattle.desk.specs.Good.{goodDesk}
-use Rattle.items.specs.Items.{Means, counterOf, flagOf, digestOf, itemDigest, blocksIn}
+use Rattle.items.specs.Items.{Means, counterOf, flagOf, digestOf, itemDigest, blocksIn, slotsOpened, slotsWith}
 use Rattle.items.specs.Way.{reachable}
 use Rattle.opening.specs.Opening.{viewOf, isId, lastCounter, Reach, Genuine}
+use Rattle.placing.specs.Ids.{Rising}
 use Rattle.writing.specs.Writing.{newFlag, newDigest}
 use Rattle.asks.specs.declared.Asked.the-variants as asked
 use Rattle.asks.specs.Ask.{recordFits, recordBytes}
@@ -71,7 +72,10 @@ pub record Writes (m : Means) (desk path new : List ℕ) (k : ℕ) : Type 0 wher
   -- the counter is the old one plus 1 if the item was reachable, else 1
   pub counter : counterOf (itemOf (sizesOf desk) new k)
       ≡ cond (reachable (viewOf desk) path k) (counterOf (itemOf (sizesOf desk) path k) + 1) 1
-  -- its slots hold, under the key, the blocks placed at this level
+  -- its slots hold, under the key, the blocks placed at this level, by rising id, and then zeros
+  pub slots : slotsOpened m (sizesOf desk) (keyOf desk) (bucketAt (sizesOf desk) (leafAsked desk) k) (itemOf (sizesOf desk) new k)
+      ≡ slotsWith (sizesOf desk .slots) (getD (placed m desk path) (heightOf desk - k) [])
+  pub rising : Rising 0 (getD (placed m desk path) (heightOf desk - k) [])
   pub blocks : blocksIn m (sizesOf desk) (keyOf desk) (bucketAt (sizesOf desk) (leafAsked desk) k) (itemOf (sizesOf desk) new k)
       ≡ getD (placed m desk path) (heightOf desk - k) []
   -- flags and digests of the children; the child on the path has its new digest
