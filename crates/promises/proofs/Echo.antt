@@ -33,10 +33,9 @@ use Rattle.promises.specs.Stores.{Request, Accepted}
 use Rattle.promises.specs.Steps.{State, asks, finishes, afterAsk, accepted, afterFinish, after, askFor, finishFor, returned, Reached}
 use Rattle.promises.specs.DemandTwo.{Kept, DemandTwo}
 use Rattle.promises.specs.Wrong.{echo, echoIf, echoing}
-use Rattle.promises.proofs.One.{answer-accepted, finished-done}
+use Rattle.promises.proofs.Answers.{answer-accepted, finished-done, leaf-asked}
 use Rattle.promises.proofs.Past.{done-through}
 use Rattle.promises.proofs.FinishStep.{path-size}
-use Rattle.promises.proofs.Moves.{leaf-asked}
 use Rattle.promises.proofs.Two.{returned-agrees}
 use Rattle.promises.proofs.Exists.{first-stands, first-open, first-unwritten, anything, first-accepted}
 use Rattle.promises.proofs.More.{reached-more}

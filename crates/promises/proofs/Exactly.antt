@@ -29,7 +29,7 @@ use Rattle.store.specs.Steps.{answerFor, wasMarked, newStash}
 use Rattle.store.specs.Finish.{finishOf, finishChecked, finishedOr}
 use Rattle.promises.specs.Stores.{ours, Accepted}
 use Rattle.promises.specs.DemandTwo.{Ready, WornOut, Exactly}
-use Rattle.promises.proofs.One.{answer-accepted, finished-refused}
+use Rattle.promises.proofs.Answers.{answer-accepted, finished-refused}
 
 -- for words
 fails-at : (p : ℕ → Bool) (n : ℕ) → all n p ≡ false → (i : ℕ) × (i < n) × (p i ≡ false)

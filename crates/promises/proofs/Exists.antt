@@ -39,15 +39,13 @@ use Rattle.promises.specs.Steps as steps
 use Rattle.promises.specs.DemandTwo.{Ready, WornOut}
 use Rattle.promises.specs.DemandThree.{Around, finishThen, shownIf, goOn, shows, Run, leavesOf}
 use Rattle.promises.specs.Exists.{Proper, InBounds, Exists}
-use Rattle.promises.proofs.Three.{passed, format-desk}
-use Rattle.promises.proofs.Moves.{leaf-asked}
+use Rattle.promises.proofs.Answers.{finished-refused, leaf-asked, passed, format-desk}
 use Rattle.promises.proofs.Stands.{Stands, none-some, begin-stands}
 use Rattle.promises.proofs.AskStep.{ask-takes, opened-stands}
 use Rattle.promises.proofs.Kept.{kept}
 use Rattle.promises.proofs.Two.{returned-agrees, reached-stands}
 use Rattle.promises.proofs.Room.{left-few, one-left}
 use Rattle.promises.proofs.Past.{late-ready}
-use Rattle.promises.proofs.One.{finished-refused}
 
 -- ---- format takes a proper start
 

@@ -44,8 +44,7 @@ use Rattle.keeping.proofs.InvStep.{inv-after}
 use Rattle.keeping.proofs.Carry.{inv-kept}
 use Rattle.promises.specs.Stores.{Start, Request, Accepted}
 use Rattle.promises.specs.Steps.{State, onlyDesk, tableDone, accepted, afterFinish}
-use Rattle.promises.proofs.One.{finished-refused, finished-done}
-use Rattle.promises.proofs.Three.{accept-record, accept-never, accept-done}
+use Rattle.promises.proofs.Answers.{accept-record, accept-never, accept-done, finished-refused, finished-done}
 use Rattle.promises.proofs.Exactly.{out-worn}
 use Rattle.promises.proofs.Past.{late-ready, Through, through-checked, done-through}
 use Rattle.promises.proofs.Finishes.{stop-good}

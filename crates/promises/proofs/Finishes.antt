@@ -42,10 +42,9 @@ use Rattle.keeping.proofs.MovedStep.{Checked, position-new, position-old, mark-
 use Rattle.keeping.proofs.DeskStep.{now-changed, now-good, now-stash}
 use Rattle.promises.specs.Stores.{ours}
 use Rattle.promises.specs.Finishes.{KeepsGood, Leaves, HandsBack, EachFinish}
-use Rattle.promises.proofs.One.{demand-one, finished-refused, finished-done, finish-same}
+use Rattle.promises.proofs.Answers.{accept-record, finished-refused, finished-done, leaf-asked, passed, format-desk}
+use Rattle.promises.proofs.One.{demand-one, finish-same}
 use Rattle.promises.proofs.Exactly.{exactly}
-use Rattle.promises.proofs.Moves.{leaf-asked}
-use Rattle.promises.proofs.Three.{passed, format-desk, accept-record}
 use Rattle.promises.proofs.Past.{late-ready, Through, through-checked, done-through}
 use Rattle.promises.proofs.Unlooked.{unlooked}
 

@@ -40,7 +40,7 @@ use Rattle.keeping.proofs.TreeStep.{count-low}
 use Rattle.promises.specs.Stores.{ours, Start, Request, Accepted}
 use Rattle.promises.specs.Steps.{State}
 use Rattle.promises.specs.DemandTwo.{Ready, WornOut, blocksOfStore, Writes, Kept}
-use Rattle.promises.proofs.One.{finished-refused, finished-done}
+use Rattle.promises.proofs.Answers.{finished-refused, finished-done}
 use Rattle.promises.proofs.Exactly.{exactly}
 use Rattle.promises.proofs.Past.{late-ready, Through, done-through}
 use Rattle.promises.proofs.Stands.{Stands}

@@ -1,13 +1,14 @@
 pub mod Rows
+pub mod Answers
 pub mod One
 pub mod Exactly
+pub mod Past
+pub mod Unlooked
+pub mod Finishes
 pub mod Moves
 pub mod Three
 pub mod Stands
 pub mod AskStep
-pub mod Past
-pub mod Unlooked
-pub mod Finishes
 pub mod FinishStep
 pub mod Kept
 pub mod Two

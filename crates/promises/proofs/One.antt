@@ -8,7 +8,7 @@ use Rattle.sizes.specs.declared.Sizes.{Sizes}
 use Rattle.sizes.specs.declared.Refusal.{Refusal}
 use Rattle.sizes.specs.declared.Refusal.the-variants.{BadDesk, Stopped, Open, NotOpen, BadId, BadLeaf, BadLength, BadSize, Forged, Worn, Full}
 use Rattle.sizes.specs.declared.Outcome.{Outcome}
-use Rattle.sizes.specs.declared.Outcome.the-variants.{Done, Refused}
+use Rattle.sizes.specs.declared.Outcome.the-variants.{Refused}
 use Rattle.desk.specs.declared.Kind.{Kind}
 use Rattle.desk.specs.declared.Kind.the-variants.{Read, Write}
 use Rattle.desk.specs.Readers.{positionOf, kindAsked}
@@ -21,37 +21,18 @@ use Rattle.asks.specs.Ask.{askRows, askChecked, askedOf, askOf, askedValue, ope
 use Rattle.asks.proofs.Passed.{ask-spares}
 use Rattle.formats.specs.Format.{formatRows, formatChecked, formatted, formatValue}
 use Rattle.formats.proofs.Passed.{format-spares}
-use Rattle.store.specs.declared.Finished.{Finished}
 use Rattle.store.specs.declared.Finished.the-variants as finished
 use Rattle.store.specs.Steps.{answerFor, wasMarked}
 use Rattle.store.specs.Finish.{finishRows, finishChecked, finishedOr, finishOf, finishedValue}
-use Rattle.promises.specs.Stores.{ours, Start, formatFor, Accepted}
+use Rattle.promises.specs.Stores.{ours, Start, formatFor}
 use Rattle.promises.specs.DemandOne.{OnlyStatus, ByRows, One, DemandOne}
 use Rattle.promises.proofs.Rows.{reads}
-
--- ---- answers and outcomes
-
-pub answer-accepted : (kind : Kind) (marked : Bool) → Accepted (answerFor kind marked)
-answer-accepted Read true q h = let z : _≡_ {A = ℕ} 0 1 = cc in omega arith
-answer-accepted Read false q h = let z : _≡_ {A = ℕ} 0 1 = cc in omega arith
-answer-accepted Write marked q h = let z : _≡_ {A = ℕ} 0 1 = cc in omega arith
+use Rattle.promises.proofs.Answers.{finished-refused, asked-refused}
 
 answer-number : (kind : Kind) (marked : Bool) → finishedValue (answerFor kind marked) .0 ≡ 0
 answer-number Read true = refl
 answer-number Read false = refl
 answer-number Write marked = refl
-
-pub finished-refused : (o : Outcome) (kind : Kind) (marked : Bool) (q : Refusal) → finishedOr o (answerFor kind marked) ≡ finished.Refused q → o ≡ Refused q
-finished-refused (Refused r) kind marked q h = cc
-finished-refused Done kind marked q h = absurd (answer-accepted kind marked q h)
-
-pub finished-done : (o : Outcome) (a : Finished) → Accepted (finishedOr o a) → o ≡ Done
-finished-done (Refused r) a h = absurd (h r refl)
-finished-done Done a h = refl
-
-pub asked-refused : (o : Outcome) (p : ℕ) (q : Refusal) → askedOf o p ≡ asked.Refused q → o ≡ Refused q
-asked-refused (Refused r) p q h = cc
-asked-refused Done p q h = let z : _≡_ {A = ℕ} 0 1 = cc in absurd (omega arith)
 
 -- ---- what a refusal changes
 

@@ -24,7 +24,7 @@ shut-out m o =
       only-echoes = echoing-out m o;
       invents-counters = inventing-out m o;
       asks-for-zero = zeroing-out m o;
-      zero-is-no-leak = zeroing-three m (o .digest-length);
+      zero-is-no-leak = zeroing-three m o;
     }
 
 pub promises : (m : Means) → Sound m → Promises m
@@ -38,11 +38,11 @@ promises m o =
       two-reachable = demand-two-reachable m o;
       two-tree = demand-two-tree m o;
       requests = whole-requests;
-      three = demand-three m (o .digest-length) m (o .digest-length);
+      three = demand-three m o m o;
       in-order = rearrange-order;
-      shown-by-draws = λ n. leaf-at m (o .digest-length) n;
-      shown-once = shown-once m (o .digest-length);
-      shown-last = shown-last-drawn m (o .digest-length);
+      shown-by-draws = λ n. leaf-at m o n;
+      shown-once = shown-once m o;
+      shown-last = shown-last-drawn m o;
       exists = exists m o;
       shut-out = shut-out m o;
       figures = figures m;

@@ -35,8 +35,8 @@ use Rattle.promises.specs.Stores.{Store, ours, Start, Request}
 use Rattle.promises.specs.Steps.{State, begin, afterAsk, afterFinish}
 use Rattle.promises.specs.Trees.{TreeState, Turn, asking, putIf, turn, turns, TreeReached, fetchedBy, TreeKept}
 use Rattle.promises.specs.Requests.{asRequest, twoTurns, requestFor, AsTurns, WholeRequests}
+use Rattle.promises.proofs.Answers.{leaf-asked}
 use Rattle.promises.proofs.One.{once, demand-one}
-use Rattle.promises.proofs.Moves.{leaf-asked}
 use Rattle.promises.proofs.TreeHolds.{fits-checked}
 use Rattle.promises.proofs.Trees.{Both, range, leaf-low, reached-both, demand-two-tree}
 

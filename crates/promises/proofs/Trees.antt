@@ -30,8 +30,7 @@ use Rattle.promises.specs.Stores.{ours, Start, formatFor, Request}
 use Rattle.promises.specs.Steps.{State, begin, askFor, afterAsk, afterFinish}
 use Rattle.promises.specs.Trees.{TreeState, Turn, asking, serving, fetchFor, putIf, served, turn, turns, TreeReached, fetchedBy, DemandTwoTree, inTree, blocksOfTree}
 use Rattle.promises.specs.DemandTwo.{blocksOfStore}
-use Rattle.promises.proofs.One.{finished-done}
-use Rattle.promises.proofs.Three.{accept-record, accept-never, accept-done}
+use Rattle.promises.proofs.Answers.{accept-record, accept-never, accept-done, finished-done}
 use Rattle.promises.proofs.Past.{Through, done-through}
 use Rattle.promises.proofs.Stands.{Stands, none-some, begin-stands}
 use Rattle.promises.proofs.AskStep.{ask-stands}

@@ -23,7 +23,7 @@ use Rattle.store.specs.Steps.{answerFor, bufferFor, carried, under, toPlace, pl
 use Rattle.store.specs.Finish.{finishChecked, finishedOr}
 use Rattle.promises.specs.Stores.{ours}
 use Rattle.promises.specs.Finishes.{Unlooked}
-use Rattle.promises.proofs.One.{finished-done}
+use Rattle.promises.proofs.Answers.{finished-done}
 
 module _ (m : Means) (desk xs ys : List ℕ) (agree : Agree (viewOf desk) xs ys) where
   same-place : toPlace m desk xs ≡ toPlace m desk ys

@@ -7,7 +7,7 @@ use mathlib.Core.Option.{none, some}
 use mathlib.Core.List.{List, [], _∷_, _++_}
 use native.Mathlib.Nat.{zero-mul}
 use native.Mathlib.Omega.{arith}
-use lib.ListN.{getD, length, drop}
+use lib.ListN.{getD, drop}
 use lib.Dec.{eqb}
 use Rattle.words.specs.Bytes.{zeros}
 use Rattle.words.specs.Numbers.{number, bytesOf}
@@ -16,7 +16,7 @@ use Rattle.sizes.specs.declared.Sizes.{Sizes}
 use Rattle.sizes.specs.declared.Outcome.{Outcome}
 use Rattle.sizes.specs.declared.Outcome.the-variants.{Done}
 use Rattle.sizes.specs.Refusals.{keptOr}
-use Rattle.sizes.specs.Sizes.{sized, recordLen, keyLen, pathLen, deskLen, innerLen, itemLen, itemAt, itemOf, digestLen}
+use Rattle.sizes.specs.Sizes.{sized, recordLen, keyLen, pathLen, deskLen, innerLen, itemLen, itemAt, itemOf}
 use Rattle.slots.specs.Slots.{Block}
 use Rattle.desk.specs.declared.Kind.the-variants.{Write}
 use Rattle.desk.specs.Readers.{sizesOf, writtenOf}
@@ -39,8 +39,8 @@ use Rattle.promises.specs.DemandTwo.{Kept, DemandTwo}
 use Rattle.promises.specs.DemandThree.{Around, finishThen, shownIf, goOn, shows, DemandThree}
 use Rattle.promises.specs.Exists.{Proper, InBounds}
 use Rattle.promises.specs.Wrong.{refusing, denying, idle, invented, inventedFrom, inventedPath, inventing, leafZero, zeroing}
-use Rattle.promises.proofs.One.{finished-done}
-use Rattle.promises.proofs.Three.{accept-never, demand-three}
+use Rattle.promises.proofs.Answers.{accept-never, finished-done}
+use Rattle.promises.proofs.Three.{demand-three}
 use Rattle.promises.proofs.Exists.{proper-formats, start-ready, first-leaf, first, first-is, first-unwritten, anything, first-ready, first-not-worn, first-few}
 use Rattle.promises.proofs.More.{reached-begin, reached-more}
 
@@ -192,9 +192,9 @@ module _ (m : Means) where
       go (asked.Leaf p) (suc j) b more h = rest b more h j
       go (asked.Refused q) j b more h = refl
 
-  pub zeroing-three : ((xs : List ℕ) → length (m .digest xs) ≡ digestLen) → DemandThree (zeroing m) (zeroing m)
-  zeroing-three digests n us vs e g h = (
-    demand-three m digests m digests n us vs e g h .0,
+  pub zeroing-three : Sound m → DemandThree (zeroing m) (zeroing m)
+  zeroing-three o n us vs e g h = (
+    demand-three m o m o n us vs e g h .0,
     λ draws l r r′ j k k′.
         shows-zero (formatFor (r .start) (r .lent) .desk) us (drop n draws) (r .around) j
         ∙ sym (shows-zero (formatFor (r′ .start) (r′ .lent) .desk) vs (drop n (rearranged draws (rearrange n us vs))) (r′ .around) j),

@@ -50,11 +50,12 @@ shows store desk (u ∷ us) (x ∷ xs) (e ∷ es) =
     shownIf (store .ask desk (e .kind) u x (e .content) .answer)
     (λ p. p ∷ goOn (finishThen store desk u x e .answer) (shows store (finishThen store desk u x e .desk) us xs es))
 
--- a run from format with these draws: the first n are the starting leaves, the others go to the requests. Key, sizes, stash room, the lent desk and
--- the surroundings are its own
+-- a run from format with these draws: the first n are the starting leaves, the others go to the requests. Key, sizes, stash room (a byte), the lent desk
+-- and the surroundings are its own
 pub record Run (n : ℕ) (draws : List ℕ) : Type 0 where
   pub start : Start
   pub ids : start .ids ≡ n
+  pub byte : start .room < 256
   pub starts : start .starts ≡ take n draws
   pub lent : List ℕ
   pub formats : formatFor start lent .answer ≡ Done
