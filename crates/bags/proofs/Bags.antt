@@ -1,6 +1,6 @@
 -- The laws of bags. Assumes nothing.
 use mathlib.Core.Path.{_≡_, refl, sym, ap₂, _∙_}
-use mathlib.Core.Bool.{Bool, true, false}
+use mathlib.Core.Bool.{Bool, true, false, not, _&&_}
 use mathlib.Core.List.{List, [], _∷_, _++_, List·Permᴰ, List·Permᴰ·nil, List·Permᴰ·cons, List·Permᴰ·swap, List·Permᴰ·trans}
 use Prim.Native.Nat.{ℕ, _+_, _≤_}
 use native.Mathlib.Nat.{zero-add}
@@ -40,6 +40,26 @@ module _ {A : Type 0} where
       (λ e.
       let f : s x ≡ false = byCases (s x) (λ g. absurd (let z : _≡_ {A = ℕ} 0 1 = cc (h x g) in omega arith)) (λ g. g) in
       rw (e, f) (omega (arith, cnt-those s t xs h)))
+
+  -- each passes or fails
+  pub cnt-both : (q : A → Bool) (xs : List A) → cnt (λ x. true) xs ≡ cnt q xs + cnt (λ x. not (q x)) xs
+  cnt-both q [] = refl
+  cnt-both q (x ∷ xs) = byCases (q x) (λ e. rw e (omega (arith, cnt-both q xs))) (λ e. rw e (omega (arith, cnt-both q xs)))
+
+  -- two tests together
+  pub cnt-and : (q t : A → Bool) (xs : List A) → cnt (λ x. q x && t x) xs ≤ cnt q xs
+  cnt-and q t [] = omega arith
+  cnt-and q t (x ∷ xs) =
+      byCases (q x)
+      (λ e. byCases (t x) (λ f. rw (e, f) (omega (arith, cnt-and q t xs))) (λ f. rw (e, f) (omega (arith, cnt-and q t xs))))
+      (λ e. rw e (omega (arith, cnt-and q t xs)))
+
+  pub either : (p q : A → Bool) (xs : List A) → cnt p xs ≤ cnt q xs + cnt (λ x. p x && not (q x)) xs
+  either p q [] = omega arith
+  either p q (x ∷ xs) =
+      byCases (p x)
+      (λ e. byCases (q x) (λ f. rw (e, f) (omega (arith, either p q xs))) (λ f. rw (e, f) (omega (arith, either p q xs))))
+      (λ e. rw e (omega (arith, either p q xs)))
 
   -- ---- all of a list
 

@@ -1,2 +1,4 @@
 pub mod Bags
+pub mod All
+pub mod Those
 pub mod Perm

@@ -1,16 +1,16 @@
 -- Lists of numbers, each at most once: the numbers from a on, what is absent, and the table that takes one list to another. Assumes nothing.
 use mathlib.Core.Path.{_≡_, refl, sym, ap, _∙_}
-use mathlib.Core.Bool.{Bool}
+use mathlib.Core.Bool.{Bool, not}
 use mathlib.Core.Logic.{_≢_}
 use mathlib.Core.List.{List, [], _∷_, _++_, map, List·Permᴰ, List·Permᴰ·nil, List·Permᴰ·cons, List·Permᴰ·swap, List·Permᴰ·trans, Permᴰ·refl}
 use Prim.Native.Nat.{ℕ, zero, suc, _+_, _≤_, _<_}
 use native.Mathlib.Nat.{le-of-suc-le-suc, not-suc-le-zero, suc-inj, suc-ne-zero, zero-add, add-zero, suc-add, add-suc}
 use native.Mathlib.Omega.{arith}
 use lib.ListN.{length, getD}
-use lib.Dec.{eqb}
-use borrow.Author.Tests.{eqb-true, eq-eqb, ne-eqb}
+use lib.Dec.{eqb, ltb}
+use borrow.Author.Tests.{eqb-true, eq-eqb, ne-eqb, lt-ltb}
 use Rattle.words.proofs.Tests.{byCases}
-use Rattle.bags.specs.Bags.{those}
+use Rattle.bags.specs.Bags.{cnt, those}
 use Rattle.bags.proofs.Bags.{perm-same}
 use Rattle.draws.specs.Draws.{from, times, absent, look}
 
@@ -23,6 +23,16 @@ length-from a (suc n) = ap suc (length-from (suc a) n)
 pub from-append : (a n m : ℕ) → from a (n + m) ≡ from a n ++ from (a + n) m
 from-append a zero m = rw (zero-add, add-zero)
 from-append a (suc n) m = rw (suc-add, add-suc, ← suc-add) (ap (λ (r : List ℕ). a ∷ r) (from-append (suc a) n m))
+
+pub getD-from : (a n i : ℕ) → i < n → getD (from a n) i 0 ≡ a + i
+getD-from a zero i h = absurd (not-suc-le-zero h)
+getD-from a (suc n) zero h = omega arith
+getD-from a (suc n) (suc i) h = getD-from (suc a) n i (omega arith) ∙ omega arith
+
+-- none of them reaches a + n
+pub from-below : (a n top : ℕ) → a + n ≤ top → cnt (λ k. not (ltb k top)) (from a n) ≡ 0
+from-below a zero top h = refl
+from-below a (suc n) top h = rw (lt-ltb a top (omega arith)) (omega (arith, from-below (suc a) n top (omega arith)))
 
 below-absent : (k a n : ℕ) → k < a → times k (from a n) ≡ 0
 below-absent k a zero h = refl
@@ -61,12 +71,7 @@ once-distinct (x ∷ xs) o i zero h l = absurd (not-suc-le-zero h)
 once-distinct (x ∷ xs) o zero (suc j) h l = λ e. let p : 0 < times x xs = rw e (times-pos xs j (le-of-suc-le-suc l)) in omega (arith, once-head x xs o)
 once-distinct (x ∷ xs) o (suc i) (suc j) h l = once-distinct xs (once-tail x xs o) i j (le-of-suc-le-suc h) (le-of-suc-le-suc l)
 
--- ---- those that pass a test, of two lists and of a rearranged one
-
-pub those-append : (t : ℕ → Bool) (xs ys : List ℕ) → those t (xs ++ ys) ≡ those t xs ++ those t ys
-unfolding those
-those-append t [] ys = refl
-those-append t (x ∷ xs) ys = byCases (t x) (λ e. rw e (ap (λ (l : List ℕ). x ∷ l) (those-append t xs ys))) (λ e. rw e (those-append t xs ys))
+-- ---- those that pass a test, of a rearranged list
 
 pub those-perm : (t : ℕ → Bool) {xs ys : List ℕ} → List·Permᴰ xs ys → List·Permᴰ (those t xs) (those t ys)
 unfolding those

@@ -8,8 +8,9 @@ use native.Mathlib.Omega.{arith}
 use lib.ListN.{length, getD}
 use Rattle.bags.specs.Bags.{those}
 use Rattle.bags.proofs.Bags.{cnt-append}
+use Rattle.bags.proofs.Those.{those-append}
 use Rattle.draws.specs.Draws.{AllGood, from, absent, indices, unshown, order}
-use Rattle.draws.proofs.Numbers.{length-from, from-append, Once, from-once, once-perm, once-distinct, those-append, those-perm, those-in, those-out}
+use Rattle.draws.proofs.Numbers.{length-from, from-append, Once, from-once, once-perm, once-distinct, those-perm, those-in, those-out}
 use Rattle.draws.proofs.Shown.{held, conserve, indices-are}
 
 -- what was shown and what the ids hold in the end are all the draws

@@ -16,6 +16,8 @@ use Rattle.sizes.specs.Sizes.{recordLen, slotLen}
 use Rattle.sizes.proofs.Lengths.{leaves-most}
 use Rattle.bags.specs.Bags.{cnt, those, All, AllOf}
 use Rattle.bags.proofs.Bags.{cnt-append}
+use Rattle.bags.proofs.All.{all-append, all-back, all-those}
+use Rattle.bags.proofs.Those.{those-append, those-all, cnt-those-le, cnt-those-none}
 use Rattle.slots.specs.Slots.{Block, isUsed, blocksOf, slotsBytes, AllFit, Bytes}
 use Rattle.slots.proofs.Blocks.{blocks-slots, fit-append}
 use Rattle.placing.specs.Placing.{sorted}
@@ -23,7 +25,6 @@ use Rattle.placing.specs.Ids.{isId, Placeable}
 use Rattle.placing.specs.Bank.{mostBlocks}
 use Rattle.gathering.specs.declared.Request.{Request}
 use Rattle.gathering.specs.Gathering.{usedTo, found, blockIf, requested, isOther, toPlace, others, Opened}
-use Rattle.gathering.proofs.Those.{those-append, those-all, all-those, cnt-those-le, cnt-those-none, all-append, all-back}
 use Rattle.gathering.proofs.Taken.{others-fit, used-fit, taken-next}
 
 -- ---- the requested block and the others can be placed, where what is found can

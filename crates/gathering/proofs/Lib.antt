@@ -1,4 +1,3 @@
-pub mod Those
 pub mod Taken
 pub mod Arranged
 pub mod Found

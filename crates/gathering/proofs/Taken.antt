@@ -18,10 +18,10 @@ use Rattle.sizes.specs.declared.Sizes.{Sizes}
 use Rattle.sizes.specs.Sizes.{recordLen, slotLen, counterLen, slotsLen, leafLen, itemAt, pathLen}
 use Rattle.sizes.proofs.Lengths.{level-fits}
 use Rattle.bags.specs.Bags.{those}
+use Rattle.bags.proofs.Those.{those-append}
 use Rattle.slots.specs.Slots.{Block, isUsed, blockBy, blocksBy, blocksOf, slotsBytes, Fits, AllFit, Bytes}
 use Rattle.slots.proofs.Blocks.{block-fits, blocks-fit, blocks-part, fit-append, length-slots, slots-append}
 use Rattle.gathering.specs.Gathering.{slotsAt, usedTo, isOther, others}
-use Rattle.gathering.proofs.Those.{those-append}
 
 -- ---- the requested block
 

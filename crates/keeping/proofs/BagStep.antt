@@ -10,7 +10,8 @@ use lib.Dec.{eqb}
 use borrow.Author.Tests.{eqb-true, eqb-false}
 use Rattle.words.proofs.Tests.{byCases}
 use Rattle.bags.specs.Bags.{cnt, those, flat}
-use Rattle.bags.proofs.Bags.{cnt-append}
+use Rattle.bags.proofs.Bags.{cnt-append, cnt-and}
+use Rattle.bags.proofs.Those.{cnt-others}
 use Rattle.slots.specs.Slots.{Block}
 use Rattle.desk.specs.Layout.{idsOf}
 use Rattle.desk.specs.Readers.{sizesOf, kindAsked, idAsked, newLeaf, recordAsked, leafAsked}
@@ -21,7 +22,6 @@ use Rattle.placing.proofs.Placing.{placed-same}
 use Rattle.store.specs.Steps.{under, carried, wasMarked, recordFound, toPlace, placed, newStash}
 use Rattle.keeping.specs.Server.{Server, Agrees}
 use Rattle.keeping.specs.Table.{Table, placeOf, tableBlocks}
-use Rattle.keeping.proofs.Lists.{cnt-others, cnt-and}
 use Rattle.keeping.proofs.Genuine.{Inv, Asks, off, total, not-off}
 
 -- of a table's blocks, those of one id

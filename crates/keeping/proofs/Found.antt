@@ -19,6 +19,10 @@ use Rattle.keeping.specs.Server.{Server, Agrees, blocksAt, leads, standi
 use Rattle.keeping.proofs.Standing.{onIt, offIt, on-none, split}
 use Rattle.keeping.proofs.Tied.{Tied, alike, found-is}
 
+pub below-none : (v : View) (path : List ℕ) (k : ℕ) → reachable v path k ≡ false → reachable v path (suc k) ≡ false
+unfolding reachable
+below-none v path k r = rw r refl
+
 module _ (m : Means) (v : View) (path : List ℕ) (server : Server) (low : v .leaf < leaves (v .sizes))
     (tied : Tied m (v .sizes) (v .key) server (v .sizes .height) 0 0 (eqb (v .written) 1) (v .root)) (fair : Agrees v server path) where
   abbrev s : Sizes
@@ -49,10 +53,6 @@ module _ (m : Means) (v : View) (path : List ℕ) (server : Server) (low : v .le
       let f = alike m v path server low tied fair k (omega arith) r .flags (v .leaf / 2 ^ (s .height - suc k) % 2) (omega arith) in
       rw (r, f, d, d′) refl
 
-  below : (k : ℕ) → reachable v path k ≡ false → reachable v path (suc k) ≡ false
-  unfolding reachable
-  below k r = rw r refl
-
   one-more : (t : Block → Bool) (k : ℕ) → cnt t (foundTo m v path (suc k)) ≡ cnt t (foundTo m v path k) + cnt t (foundAt m v path k)
   unfolding foundTo
   one-more t k = cnt-append t (foundTo m v path k) (foundAt m v path k)
@@ -71,7 +71,7 @@ module _ (m : Means) (v : View) (path : List ℕ) (server : Server) (low : v .le
   way-step t h k e false r =
       let a : cnt t (foundAt m v path k) ≡ 0 = ap (cnt t) (found-none k r) in
       let b : cnt t (way h (suc k) (reachable v path (suc k))) ≡ 0 =
-      ap (λ (w : Bool). cnt t (way h (suc k) w)) (below k r) ∙ ap (cnt t) (on-none m s (v .key) (v .leaf) server h (suc k)) in
+      ap (λ (w : Bool). cnt t (way h (suc k) w)) (below-none v path k r) ∙ ap (cnt t) (on-none m s (v .key) (v .leaf) server h (suc k)) in
       omega (arith, a, b)
 
   found-from : (t : Block → Bool) (h k : ℕ) → k + h ≡ s .height

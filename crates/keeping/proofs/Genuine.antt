@@ -13,15 +13,18 @@ use borrow.Author.Tests.{eqb-true, eqb-false, eq-eqb, le-leb, leb-true}
 use Rattle.words.proofs.Tests.{byCases, each}
 use Rattle.sizes.specs.Sizes.{leaves, recordLen}
 use Rattle.bags.specs.Bags.{cnt, Same, AllOf}
-use Rattle.bags.proofs.Bags.{cnt-append}
+use Rattle.bags.proofs.Bags.{cnt-append, either}
+use Rattle.bags.proofs.All.{all-map, all-pass}
 use Rattle.slots.specs.Slots.{Block}
 use Rattle.desk.specs.Layout.{idsOf}
-use Rattle.desk.specs.Readers.{sizesOf, heightOf, keyOf, rootOf, isWritten, isMarked, positionOf, stashOf, idAsked, leafAsked}
+use Rattle.desk.specs.Readers.{sizesOf, heightOf, keyOf, rootOf, isWritten, isMarked, positionOf, stashOf, idAsked, leafAsked, statusOf}
+use Rattle.desk.specs.Status.{readyStatus, openStatus}
+use Rattle.desk.specs.Good.{goodDesk}
+use Rattle.desk.proofs.Exactly.{good-conditions}
 use Rattle.items.specs.Items.{Means}
 use Rattle.opening.specs.Opening.{viewOf, isId, foundTo, found, gathered, Genuine}
 use Rattle.keeping.specs.Server.{Server, Agrees, standing}
 use Rattle.keeping.specs.Table.{Table, isHeld, tableBlocks}
-use Rattle.keeping.proofs.Lists.{all-map, all-pass, either}
 use Rattle.keeping.proofs.Standing.{offIt}
 use Rattle.keeping.proofs.Tied.{Tied, digest-fits, left-fits, right-fits, ways-fit}
 use Rattle.keeping.proofs.Found.{found-off}
@@ -40,6 +43,12 @@ pub record Asks (desk : List ℕ) : Type 0 where
   pub low : leafAsked desk < leaves (sizesOf desk)
   pub id-low : 1 ≤ idAsked desk
   pub id-high : idAsked desk ≤ idsOf desk
+
+pub asks-of : (desk : List ℕ) → goodDesk desk ≡ true → statusOf desk ≡ openStatus → Asks desk
+asks-of desk g s =
+    let k = good-conditions desk g in
+    let n : statusOf desk ≡ readyStatus → ⊥ = λ e. omega arith in
+    record { low = k .every-position (idAsked desk) (k .asked-low n) (k .asked-high n); id-low = k .asked-low n; id-high = k .asked-high n }
 
 found-part : (m : Means) (desk path : List ℕ) (t : Block → Bool) (k n : ℕ) → k < n → cnt t (found m desk path k) ≤ cnt t (foundTo m (viewOf desk) path n)
 unfolding foundTo

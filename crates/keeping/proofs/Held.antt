@@ -11,10 +11,11 @@ use borrow.Author.Tests.{eqb-true, eqb-false, eq-eqb}
 use Rattle.words.proofs.Tests.{byCases}
 use Rattle.bags.specs.Bags.{bit, cnt, AllOf}
 use Rattle.bags.proofs.Bags.{cnt-append}
+use Rattle.bags.proofs.All.{all-map}
 use Rattle.slots.specs.Slots.{Block}
 use Rattle.opening.specs.Opening.{isId}
+use Rattle.opening.proofs.Tests.{no-true}
 use Rattle.keeping.specs.Table.{Table, isHeld, blockOf, placeOf, tableBlocks}
-use Rattle.keeping.proofs.Lists.{no-true, all-map}
 
 module _ (desk : List ℕ) (table : Table) where
   -- a test that no block of the table passes

@@ -1,4 +1,3 @@
-pub mod Lists
 pub mod Alike
 pub mod Standing
 pub mod Tied
@@ -16,6 +15,8 @@ pub mod TreeStep
 pub mod StandStep
 pub mod Positions
 pub mod Levels
+pub mod MovedStep
 pub mod PlacedStep
 pub mod Carry
 pub mod DeskStep
+pub mod InvStep

@@ -11,12 +11,13 @@ use borrow.Author.Tests.{eqb-true, eq-eqb}
 use Rattle.words.proofs.Tests.{byCases, same-refl}
 use Rattle.bags.specs.Bags.{cnt, those, Same}
 use Rattle.bags.proofs.Bags.{same-length}
+use Rattle.bags.proofs.Those.{those-none}
 use Rattle.slots.specs.Slots.{Block}
 use Rattle.desk.specs.Readers.{positionOf}
 use Rattle.opening.specs.Opening.{isId}
+use Rattle.opening.proofs.Tests.{no-true}
 use Rattle.placing.proofs.Rising.{sameBlock, same-block}
 use Rattle.keeping.specs.Table.{Table, isHeld, isSome, everWritten, blockOf, placeOf, tableBlocks}
-use Rattle.keeping.proofs.Lists.{no-true, those-none}
 use Rattle.keeping.proofs.Held.{none-of, few, there-is}
 use Rattle.keeping.proofs.Plain.{some-inj}
 

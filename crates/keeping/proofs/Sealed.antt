@@ -19,7 +19,7 @@ use Rattle.bags.specs.Bags.{choose, those, AllOf}
 use Rattle.slots.specs.Slots.{Block, blocksBy, blocksOf, isUsed, slotBytes, slotsBytes, AllFit, slotsWith}
 use Rattle.slots.proofs.Numbers.{number-left}
 use Rattle.slots.proofs.Blocks.{length-slot, length-slots, block-slot}
-use Rattle.items.specs.Items.{Means, Sound, counterOf, counterBytes, slotsOf, nonceOf, blocksIn, sealed}
+use Rattle.items.specs.Items.{Means, Sound, counterOf, counterBytes, slotsOf, nonceOf, blocksIn, sealed, slotsOpened}
 
 zeros-add : (a b : ℕ) → zeros (a + b) ≡ zeros a ++ zeros b
 zeros-add zero b = rw (zero-add b) refl
@@ -86,10 +86,15 @@ module _ (m : Means) (o : Sound m) (s : Sizes) (key : List ℕ) (counter bucket 
         rw (append-assoc (bytesOf counterLen counter) text more, drop-at (bytesOf counterLen counter) (text ++ more) counterLen (length-bytesOf counterLen counter))
         (take-at text more (slotsLen s) text-length)
 
+    -- opened again, they are what was laid in
+    pub sealed-opened : slotsOpened m s key bucket (sealed m s key counter bucket bs ++ more) ≡ slotsWith (s .slots) bs
+    sealed-opened =
+        ap₂ (λ (c t : List ℕ). m .cipher key (nonceOf c bucket) t) sealed-bytes sealed-slots
+        ∙ o .cipher-twice key (nonceOf (bytesOf counterLen counter) bucket) (slotsWith (s .slots) bs)
+
     pub sealed-holds : blocksIn m s key bucket (sealed m s key counter bucket bs ++ more) ≡ bs
     unfolding blocksIn
     sealed-holds =
         let q : s .slots ≡ length bs + (s .slots - length bs) = omega arith in
-        ap₂ (λ (c t : List ℕ). those isUsed (blocksOf (s .slots) (m .cipher key (nonceOf c bucket) t))) sealed-bytes sealed-slots
-        ∙ ap (λ (t : List ℕ). those isUsed (blocksOf (s .slots) t)) (o .cipher-twice key (nonceOf (bytesOf counterLen counter) bucket) (slotsWith (s .slots) bs))
+        ap (λ (t : List ℕ). those isUsed (blocksOf (s .slots) t)) sealed-opened
         ∙ ap (λ (n : ℕ). those isUsed (blocksOf n (slotsWith (s .slots) bs))) q ∙ slots-hold bs (s .slots - length bs) f u

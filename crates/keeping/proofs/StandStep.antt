@@ -3,7 +3,7 @@
 use Prim.Native.Nat.{ℕ, zero, suc, _+_, _-_, _/_, _%_, _^_, _<_, _≤_}
 use mathlib.Core.Path.{_≡_, refl, sym, ap, _∙_}
 use mathlib.Core.Logic.{_≢_}
-use mathlib.Core.Bool.{Bool, true, false, _&&_}
+use mathlib.Core.Bool.{Bool, true, _&&_}
 use mathlib.Core.List.{List, [], _∷_}
 use native.Mathlib.Omega.{arith}
 use native.Mathlib.Nat.{div-eq-of-lt}
@@ -23,7 +23,7 @@ use Rattle.opening.specs.Opening.{lastCounter}
 use Rattle.keeping.specs.Server.{Server, Agrees, leads, blocksAt, standing}
 use Rattle.keeping.proofs.Standing.{onIt, offIt, split, Rewritten, off-stays}
 use Rattle.keeping.proofs.Tied.{Tied}
-use Rattle.keeping.proofs.Found.{goes-on}
+use Rattle.keeping.proofs.Found.{goes-on, below-none}
 use Rattle.keeping.proofs.Written.{Lies, blocks-new}
 use Rattle.keeping.proofs.TreeStep.{serverAfter, others, new-item, lead-on, lead-off}
 
@@ -35,10 +35,6 @@ cnt-taken t [] (suc h) = refl
 cnt-taken t (x ∷ xs) zero = cnt-append t x [] ∙ omega arith
 cnt-taken t (x ∷ xs) (suc h) =
     omega (arith, cnt-append t x (flat (take (suc h) xs)), cnt-append t x (flat (take h xs)), cnt-taken t xs h)
-
-below-none : (v : View) (path : List ℕ) (k : ℕ) → reachable v path k ≡ false → reachable v path (suc k) ≡ false
-unfolding reachable
-below-none v path k r = rw r refl
 
 module _ (m : Means) (o : Sound m) (v : View) (path : List ℕ) (server : Server) (low : v .leaf < leaves (v .sizes))
     (tied : Tied m (v .sizes) (v .key) server (v .sizes .height) 0 0 (eqb (v .written) 1) (v .root)) (fair : Agrees v server path)

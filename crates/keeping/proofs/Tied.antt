@@ -1,9 +1,9 @@
 -- A server whose reachable items are tied to the root digest: over a path that agrees with it, digests, flags and ways pass the checks. Assumes nothing.
 use Prim.Native.Nat.{ℕ, zero, suc, _+_, _-_, _*_, _/_, _%_, _^_, _<_, _≤_}
-use mathlib.Core.Path.{_≡_, refl, sym, ap, _∙_}
-use mathlib.Core.Bool.{Bool, true}
+use mathlib.Core.Path.{_≡_, refl, sym, ap, ap₂, _∙_}
+use mathlib.Core.Bool.{Bool, true, false}
 use mathlib.Core.Option.{some}
-use mathlib.Core.List.{List}
+use mathlib.Core.List.{List, _++_}
 use native.Mathlib.Omega.{arith}
 use native.Mathlib.Nat.{div-eq-of-lt}
 use lib.ListN.{length}
@@ -15,12 +15,13 @@ use Rattle.sizes.specs.declared.Sizes.{Sizes}
 use Rattle.sizes.specs.Sizes.{leaves, itemLen, itemAt, pathLen, bucketNo, placeIn, bucketAt}
 use Rattle.sizes.proofs.Lengths.{item-fits}
 use Rattle.bags.specs.Bags.{AllOf}
+use Rattle.bags.proofs.All.{all-map}
+use Rattle.slots.specs.Slots.{Block}
 use Rattle.items.specs.declared.View.{View}
-use Rattle.items.specs.Items.{Means, counterOf, flagOf, digestOf, masked, itemDigest}
+use Rattle.items.specs.Items.{Means, counterOf, flagOf, digestOf, masked, itemDigest, blocksIn}
 use Rattle.items.specs.Way.{item, side, reachable, digestDue}
 use Rattle.opening.specs.Opening.{foundAt}
-use Rattle.keeping.specs.Server.{Server, Returns, Agrees, orNil, blocksAt, leads}
-use Rattle.keeping.proofs.Lists.{all-map}
+use Rattle.keeping.specs.Server.{Server, Returns, Agrees, orNil, blocksAt, leads, standing}
 use Rattle.keeping.proofs.Alike.{Alike, masked-alike, blocks-same}
 use Rattle.keeping.proofs.Standing.{half}
 
@@ -172,3 +173,23 @@ module _ (m : Means) (v : View) (path : List ℕ) (server : Server) (low : v .le
           rw found-is
           (all-map (λ b. placeIn s (b .leaf) k ≡ at k) (λ b. bucketAt s (b .leaf) k ≡ bucketAt s (v .leaf) k) (λ b e. ap (bucketNo k) e)
           (blocksAt m s (v .key) server k (at k)) (node .sits))
+
+-- ---- another server that has all that was written here: the same blocks stand on it
+
+module _ (m : Means) (s : Sizes) (key : List ℕ) (server server′ : Server)
+    (has : (k j : ℕ) (item : List ℕ) → server k j ≡ some item → server′ k j ≡ some item) where
+  same-item : (k j : ℕ) (due : List ℕ) → Node m s key server k j due → orNil (server′ k j) ≡ orNil (server k j)
+  same-item k j due n = ap orNil (has k j (orNil (server k j)) (n .there))
+
+  pub standing-tied : (h k j : ℕ) (r : Bool) (due : List ℕ) → Tied m s key server h k j r due → standing m s key server′ h k j r ≡ standing m s key server h k j r
+  unfolding standing Tied
+  standing-tied zero k j false due t = refl
+  standing-tied zero k j true due t = ap (blocksIn m s key (bucketNo k j)) (same-item k j due (t refl))
+  standing-tied (suc h) k j false due t = refl
+  standing-tied (suc h) k j true due t =
+      let w = t refl in
+      let e = same-item k j due (w .0) in
+      rw e
+      (ap₂ (λ (a b : List Block). blocksAt m s key server k j ++ (a ++ b))
+      (standing-tied h (suc k) (2 * j) (leads s server k j 0) (digestOf s (orNil (server k j)) 0) (w .1))
+      (standing-tied h (suc k) (2 * j + 1) (leads s server k j 1) (digestOf s (orNil (server k j)) 1) (w .2)))

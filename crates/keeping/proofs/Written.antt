@@ -16,12 +16,12 @@ use Rattle.sizes.specs.declared.Sizes.{Sizes}
 use Rattle.sizes.specs.Sizes.{recordLen, flagsLen, digestLen, leafLen, innerLen, itemLen, itemAt, itemOf, pathLen, placeIn, flagAt, digestAt}
 use Rattle.sizes.proofs.Lengths.{inner-item, leaf-item, next-item, item-fits}
 use Rattle.bags.specs.Bags.{AllOf}
-use Rattle.slots.specs.Slots.{Block, AllFit}
+use Rattle.slots.specs.Slots.{Block, AllFit, slotsWith}
 use Rattle.items.specs.declared.View.{View}
-use Rattle.items.specs.Items.{Means, Sound, counterOf, flagOf, digestOf, masked, itemDigest, blocksIn}
+use Rattle.items.specs.Items.{Means, Sound, counterOf, flagOf, digestOf, masked, itemDigest, blocksIn, slotsOpened}
 use Rattle.items.specs.Way.{item, bucket, side}
 use Rattle.writing.specs.Writing.{newCounter, newHead, isKept, newFlag, newDigest, newInner, written, pathWritten}
-use Rattle.keeping.proofs.Sealed.{sealed-length, sealed-counter, sealed-holds}
+use Rattle.keeping.proofs.Sealed.{sealed-length, sealed-counter, sealed-holds, sealed-opened}
 
 -- blocks that may lie in the bucket at level k of the path to a leaf
 pub record Lies (s : Sizes) (leaf k : ℕ) (bs : List Block) : Type 0 where
@@ -185,25 +185,32 @@ module _ (m : Means) (o : Sound m) (v : View) (path : List ℕ) (placed : List (
           ∙ part-whole (d 1) digestLen (omega (arith, digest-length k (digestBelow k) 1 h (omega arith) (below-length k)))
       two (suc (suc on)) j = absurd (omega arith)
 
+  -- read from the new item: what is read from a head with anything behind it
+  of-head : {A : Type 0} (k : ℕ) → k ≤ L → (read : List ℕ → A) (x : A) → ((more : List ℕ) → read (newHead m v path placed k ++ more) ≡ x) → read (newItem k) ≡ x
+  of-head k h read x f =
+      below-or k L
+      (λ i. ap read (split-is k i) ∙ f (after-head k))
+      (λ i.
+      let e : k ≡ L = omega arith in
+      ap read (ap newItem e ∙ leaf-is ∙ ap (newHead m v path placed) (sym e) ∙ sym (append-nil (newHead m v path placed k))) ∙ f [])
+
+  pub slots-new : (k : ℕ) → k ≤ L → slotsOpened m s (v .key) (bucket v k) (newItem k) ≡ slotsWith (s .slots) (blocksLaid k)
+  slots-new k h =
+      let l = laid k h in
+      of-head k h (slotsOpened m s (v .key) (bucket v k)) (slotsWith (s .slots) (blocksLaid k))
+      (sealed-opened m o s (v .key) (newCounter m v path placed k) (bucket v k) (blocksLaid k) (l .fits) (l .used) (l .few))
+
   pub blocks-new : (k : ℕ) → k ≤ L → blocksIn m s (v .key) (bucket v k) (newItem k) ≡ blocksLaid k
   blocks-new k h =
       let l = laid k h in
-      let holds = sealed-holds m o s (v .key) (newCounter m v path placed k) (bucket v k) (blocksLaid k) (l .fits) (l .used) (l .few) in
-      below-or k L
-      (λ i. ap (blocksIn m s (v .key) (bucket v k)) (split-is k i) ∙ holds (after-head k))
-      (λ i.
-      let e : k ≡ L = omega arith in
-      ap (blocksIn m s (v .key) (bucket v k)) (ap newItem e ∙ leaf-is ∙ ap (newHead m v path placed) (sym e) ∙ sym (append-nil (newHead m v path placed k))) ∙ holds [])
+      of-head k h (blocksIn m s (v .key) (bucket v k)) (blocksLaid k)
+      (sealed-holds m o s (v .key) (newCounter m v path placed k) (bucket v k) (blocksLaid k) (l .fits) (l .used) (l .few))
 
   pub counter-new : (k : ℕ) → k ≤ L → newCounter m v path placed k < 2 ^ 64 → counterOf (newItem k) ≡ newCounter m v path placed k
   counter-new k h c =
       let l = laid k h in
-      let counts = sealed-counter m o s (v .key) (newCounter m v path placed k) (bucket v k) (blocksLaid k) (l .fits) (l .used) (l .few) in
-      below-or k L
-      (λ i. ap counterOf (split-is k i) ∙ counts (after-head k) c)
-      (λ i.
-      let e : k ≡ L = omega arith in
-      ap counterOf (ap newItem e ∙ leaf-is ∙ ap (newHead m v path placed) (sym e) ∙ sym (append-nil (newHead m v path placed k))) ∙ counts [] c)
+      of-head k h counterOf (newCounter m v path placed k)
+      (λ more. sealed-counter m o s (v .key) (newCounter m v path placed k) (bucket v k) (blocksLaid k) (l .fits) (l .used) (l .few) more c)
 
   -- a leaf's item is too short for flags
   pub leaf-flag : (on : ℕ) → flagOf s (newItem L) on ≡ 0

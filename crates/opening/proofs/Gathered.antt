@@ -1,24 +1,29 @@
 -- All that is gathered from a path that passes its checks can be placed, and every record there has its length. Assumes nothing.
 use Prim.Native.Nat.{ℕ, zero, suc, _+_, _-_, _*_, _≤_, _<_}
-use mathlib.Core.Bool.{Bool, true}
+use mathlib.Core.Bool.{true}
 use mathlib.Core.Path.{_≡_, sym, ap, _∙_, subst}
-use mathlib.Core.List.{List, [], _∷_, _++_, append-nil}
+use mathlib.Core.List.{List, [], _∷_, append-nil}
 use native.Mathlib.Nat.{mul-zero, zero-add, suc-add}
 use native.Mathlib.Omega.{arith}
 use lib.ListN.{length, drop}
 use lib.Seq.{drop-drop}
 use lib.Dec.{eqb}
-use borrow.Author.Tests.{eqb-true, eqb-false}
+use borrow.Author.Tests.{eqb-true, eqb-false, eq-eqb}
 use Rattle.words.proofs.Tests.{byCases, below-or}
 use Rattle.bags.specs.Bags.{bit, cnt, those, AllOf}
 use Rattle.bags.proofs.Bags.{cnt-append}
+use Rattle.bags.proofs.All.{all-both, all-append, all-those}
 use Rattle.sizes.specs.Sizes.{recordLen, slotsLen, pathLen}
 use Rattle.sizes.proofs.Lengths.{item-fits}
 use Rattle.slots.specs.Slots.{Block, isUsed, slotBy, blockBy, blocksBy, blocksOf}
 use Rattle.slots.proofs.Blocks.{slots-suc}
 use Rattle.placing.specs.Ids.{Placeable}
-use Rattle.desk.specs.Layout.{idsOf}
-use Rattle.desk.specs.Readers.{heightOf, slotsIn, sizesOf, keyOf, idAsked, isMarked, stashCount, stashOf}
+use Rattle.desk.specs.Layout.{bodyD, idsOf, shapeOf}
+use Rattle.desk.specs.Readers.{heightOf, slotsIn, sizesOf, keyOf, idAsked, positionOf, markOf, isMarked, stashCount, stashOf}
+use Rattle.desk.specs.Good.{goodDesk}
+use Rattle.desk.specs.Stash.{AllPlaced}
+use Rattle.desk.proofs.Changed.{unchanged}
+use Rattle.desk.proofs.Read.{read-position, read-mark}
 use Rattle.items.specs.declared.View.{View}
 use Rattle.items.specs.Items.{Means, Sound, counterBytes, slotsOf, nonceOf, slotsOpened, blocksIn}
 use Rattle.items.specs.Way.{item, bucket, reachable, Reached}
@@ -31,21 +36,11 @@ use Rattle.opening.specs.Walk.{OpenDesk, Unsealed}
 use Rattle.opening.proofs.Walk.{slot-id}
 use Rattle.opening.proofs.Found.{records-long, lookup-long}
 use Rattle.opening.proofs.Genuine.{genuine-checks}
-use Rattle.opening.proofs.Open.{stash-room, stash-id}
+use Rattle.opening.proofs.Open.{stash-room, stash-id, good-stash}
 
 -- ---- of all of a list
--- for bags
 
 module _ (P : Block → Type 0) where
-  all-append : (xs ys : List Block) → AllOf P xs → AllOf P ys → AllOf P (xs ++ ys)
-  all-append [] ys a b = b
-  all-append (x ∷ xs) ys a b = (a .0, all-append xs ys (a .1) b)
-
-  all-those : (t : Block → Bool) (xs : List Block) → AllOf P xs → AllOf P (those t xs)
-  unfolding those
-  all-those t [] a = tt
-  all-those t (x ∷ xs) a = byCases (t x) (λ e. rw e (a .0, all-those t xs (a .1))) (λ e. rw e (all-those t xs (a .1)))
-
   -- by the slots that show them
   all-slots : (r n : ℕ) (xs : List ℕ) → ((i : ℕ) → i < n → P (blockBy r (drop (slotBy r * i) xs))) → AllOf P (blocksBy r n xs)
   unfolding blocksBy
@@ -118,6 +113,24 @@ module _ (m : Means) (desk path : List ℕ) where
             once = gathered-once;
           }
 
+      -- in a good desk each is marked, and carries its position's leaf
+      pub gathered-stands : goodDesk desk ≡ true → AllOf (λ b. (isMarked desk (b .id) ≡ true) × (b .leaf ≡ positionOf desk (b .id))) (gathered m desk path)
+      gathered-stands good =
+          all-gathered (λ b. (isMarked desk (b .id) ≡ true) × (b .leaf ≡ positionOf desk (b .id)))
+          (λ k r. all-both (λ b. isMarked desk (b .id) ≡ true) (λ b. b .leaf ≡ positionOf desk (b .id)) (found m desk path k) (g .marks k r) (g .positions k r))
+          (in-stash (stashOf desk) (good-stash desk good .placed) stash-low)
+        where
+          in-stash : (bs : List Block) → AllPlaced (shapeOf desk) (bodyD (shapeOf desk) desk) bs → AllOf (λ b. 1 ≤ b .id) bs
+              → AllOf (λ b. (isMarked desk (b .id) ≡ true) × (b .leaf ≡ positionOf desk (b .id))) bs
+          in-stash [] p l = tt
+          in-stash (b ∷ bs) p l = (
+            (
+              eq-eqb (markOf desk (b .id)) 1 (read-mark (unchanged desk) (b .id) (l .0) (p .0 .high) ∙ p .0 .marked),
+              p .0 .carries ∙ sym (read-position (unchanged desk) (b .id) (l .0) (p .0 .high)),
+            ),
+            in-stash bs (p .1) (l .1),
+          )
+
     -- ---- records
 
     module _ (sound : Sound m) (room : pathLen (sizesOf desk) ≤ length path) where
@@ -130,7 +143,7 @@ module _ (m : Means) (desk path : List ℕ) where
           let n : length xs ≡ slotsLen s =
           sound .cipher-length (keyOf desk) (nonceOf (counterBytes it) (bucket (viewOf desk) k)) (slotsOf s it)
           ∙ length-slots s path k (omega (arith, item-fits s k (r .0), item-long s path k)) in
-          rw (r .1) (all-those (λ b. length (b .bytes) ≡ recordLen) isUsed (blocksOf (slotsIn desk) xs) (records-long recordLen (slotsIn desk) xs (omega arith)))
+          rw (r .1) (all-those isUsed (λ b. length (b .bytes) ≡ recordLen) (blocksOf (slotsIn desk) xs) (records-long recordLen (slotsIn desk) xs (omega arith)))
 
       pub gathered-long : AllOf (λ b. length (b .bytes) ≡ recordLen) (gathered m desk path)
       gathered-long = all-gathered (λ b. length (b .bytes) ≡ recordLen) found-long (records-long recordLen (stashCount desk) (stashSlots desk) (stash-room desk o))

@@ -11,6 +11,7 @@ use Rattle.words.specs.Bytes.{same}
 use Rattle.words.specs.Tests.{all, Each}
 use Rattle.words.proofs.Tests.{all-at, all-true, each, every-of, and-left, and-right, same-eq, same-refl}
 use Rattle.bags.specs.Bags.{cnt, AllOf}
+use Rattle.bags.proofs.All.{all-map}
 use Rattle.slots.specs.Slots.{Block}
 use Rattle.sizes.specs.Sizes.{bucketAt}
 use Rattle.desk.specs.Layout.{idsOf}
@@ -20,7 +21,6 @@ use Rattle.items.specs.Items.{Means, flagOf, itemDigest}
 use Rattle.items.specs.Way.{item, reachable, digestDue}
 use Rattle.opening.specs.Opening.{viewOf, isId, foundAt, found, gathered, digestFits, flagsFit, blockFits, eachFits, isThere, genuine, Reach, Genuine}
 use Rattle.opening.proofs.Tests.{implied, implies}
-use Rattle.opening.proofs.Once.{all-of-map}
 
 module _ (m : Means) (desk path : List ℕ) where
   abbrev tests : ℕ → Block → List Bool
@@ -56,12 +56,12 @@ module _ (m : Means) (desk path : List ℕ) where
         digests = λ k r. same-eq _ _ (implied _ _ (all-at (digestFits m (viewOf desk) path) (suc (heightOf desk)) k (omega (arith, r .0)) (e .0)) (r .1));
         left-flags = λ k l r. leb-true _ _ (flags k l r .0);
         right-flags = λ k l r. leb-true _ _ (flags k l r .1 .0);
-        ids = λ k r. all-of-map (λ b. Each (tests k b)) (λ b. b .id ≤ idsOf desk) (λ b a. leb-true _ _ (a .0)) (found m desk path k) (slots k r);
-        marks = λ k r. all-of-map (λ b. Each (tests k b)) (λ b. isMarked desk (b .id) ≡ true) (λ b a. a .1 .0) (found m desk path k) (slots k r);
-        positions = λ k r. all-of-map (λ b. Each (tests k b)) (λ b. b .leaf ≡ positionOf desk (b .id)) (λ b a. eqb-true _ _ (a .1 .1 .0)) (found m desk path k) (slots k r);
+        ids = λ k r. all-map (λ b. Each (tests k b)) (λ b. b .id ≤ idsOf desk) (λ b a. leb-true _ _ (a .0)) (found m desk path k) (slots k r);
+        marks = λ k r. all-map (λ b. Each (tests k b)) (λ b. isMarked desk (b .id) ≡ true) (λ b a. a .1 .0) (found m desk path k) (slots k r);
+        positions = λ k r. all-map (λ b. Each (tests k b)) (λ b. b .leaf ≡ positionOf desk (b .id)) (λ b a. eqb-true _ _ (a .1 .1 .0)) (found m desk path k) (slots k r);
         ways = λ k r.
-            all-of-map (λ b. Each (tests k b)) (λ b. bucketAt (sizesOf desk) (b .leaf) k ≡ bucketAt (sizesOf desk) (leafAsked desk) k) (λ b a. eqb-true _ _ (a .1 .1 .1 .0)) (found m desk path k) (slots k r);
-        once = λ k r. all-of-map (λ b. Each (tests k b)) (λ b. cnt (isId (b .id)) (gathered m desk path) ≡ 1) (λ b a. eqb-true _ _ (a .1 .1 .1 .1 .0)) (found m desk path k) (slots k r);
+            all-map (λ b. Each (tests k b)) (λ b. bucketAt (sizesOf desk) (b .leaf) k ≡ bucketAt (sizesOf desk) (leafAsked desk) k) (λ b a. eqb-true _ _ (a .1 .1 .1 .0)) (found m desk path k) (slots k r);
+        once = λ k r. all-map (λ b. Each (tests k b)) (λ b. cnt (isId (b .id)) (gathered m desk path) ≡ 1) (λ b a. eqb-true _ _ (a .1 .1 .1 .1 .0)) (found m desk path k) (slots k r);
         there = λ k. ltb-true _ _ (implied _ _ (e .1 .1 .1 .0) k);
       }
 

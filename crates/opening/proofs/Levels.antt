@@ -14,6 +14,7 @@ use Rattle.words.proofs.Tests.{below-or, all-none, all-more, all-fails, all-at,
 use Rattle.sizes.specs.Sizes.{mostIds}
 use Rattle.bags.specs.Bags.{cnt, those, AllOf}
 use Rattle.bags.proofs.Bags.{cnt-append}
+use Rattle.bags.proofs.All.{all-map}
 use Rattle.slots.specs.Slots.{Block, isUsed, blocksOf}
 use Rattle.desk.specs.Readers.{heightOf, slotsIn, sizesOf, keyOf, idAsked, isMarked, stashOf}
 use Rattle.items.specs.declared.View.{View}
@@ -24,7 +25,7 @@ use Rattle.items.proofs.Way.{reached-below, reached-above}
 use Rattle.opening.specs.Opening.{viewOf, isId, isPlaced, foundAt, foundTo, found, gathered, blockFits, eachFits, slotsFit}
 use Rattle.opening.specs.Walk.{walk, Walked, Seen, Unsealed}
 use Rattle.opening.proofs.Tests.{same-test}
-use Rattle.opening.proofs.Once.{Distinct, Goes, walk-goes, walk-of, counted, all-of-map}
+use Rattle.opening.proofs.Once.{Distinct, Goes, walk-goes, walk-of, counted}
 
 module _ (desk path : List ℕ) where
   -- the blocks of the slots of the item at level k, and those met before them
@@ -128,7 +129,7 @@ module _ (desk path : List ℕ) where
         let d = distinct-to once h n (omega arith) in
         let c : AllOf (λ b. 0 < cnt (isId (b .id)) whole) (here k) = counted (here k) whole (λ id. omega (arith, counts id k l)) in
         fits-each k (here k) (rw e (g .placed))
-        (all-of-map (λ b. 0 < cnt (isId (b .id)) whole) (λ b. cnt (isId (b .id)) whole ≡ 1) (λ b z. omega (arith, z, d (b .id), met-all (b .id))) (here k) c))
+        (all-map (λ b. 0 < cnt (isId (b .id)) whole) (λ b. cnt (isId (b .id)) whole ≡ 1) (λ b z. omega (arith, z, d (b .id), met-all (b .id))) (here k) c))
         (λ ge. let e : here k ≡ [] = found-none k (reached-above (viewOf desk) path n reached k l ge) in rw e)
 
     fits-walks : all (suc (heightOf desk)) (λ k. eachFits real desk path k (here k)) ≡ true → all n walkAt ≡ true

@@ -88,9 +88,3 @@ module _ (desk : List ℕ) (k : ℕ) where
       (λ e.
       let rest : walk desk k met bs ≡ true = walk-of whole met bs (rw e at p) (rw e at o) (rw e at h) in
       rw e (rw append-nil rest))
-
--- ---- tests of each block, and what they say
-
-pub all-of-map : {A : Type 0} (P Q : A → Type 0) → ((b : A) → P b → Q b) → (bs : List A) → AllOf P bs → AllOf Q bs
-all-of-map P Q f [] a = tt
-all-of-map P Q f (b ∷ bs) a = (f b (a .0), all-of-map P Q f bs (a .1))

@@ -21,6 +21,7 @@ use Rattle.desk.specs.declared.Shape.{Shape}
 use Rattle.desk.specs.Layout.{eAt, slotAt, bodyD, bodyE, roomOf, shapeOf}
 use Rattle.desk.specs.Readers.{heightOf, idAsked, statusOf, stashCount, stashId, stashOf}
 use Rattle.desk.specs.Status.{openStatus}
+use Rattle.desk.specs.Stash.{Stashed}
 use Rattle.desk.specs.Good.{Good, goodDesk}
 use Rattle.desk.proofs.Known.{known, good-small}
 use Rattle.desk.proofs.Exactly.{good-conditions}
@@ -82,17 +83,21 @@ rising-once last id (b ∷ bs) r =
 
 -- ---- a good desk
 
+-- its stash: ids rise, are marked, and carry their position's leaf
+pub good-stash : (desk : List ℕ) → goodDesk desk ≡ true → Stashed (shapeOf desk) (bodyD (shapeOf desk) desk) (stashOf desk)
+good-stash desk g =
+    let h : Shape = shapeOf desk in
+    let n : number 2 (bodyE h desk) 0 ≡ stashCount desk = number-drop 2 desk (eAt h) 0 ∙ ap (number 2 desk) (add-zero (eAt h)) in
+    let d : drop countLen (bodyE h desk) ≡ stashSlots desk = drop-drop countLen (eAt h) desk in
+    subst (λ (bs : List Block). Stashed h (bodyD h desk) bs) (ap₂ (λ (i : ℕ) (xs : List ℕ). blocksBy recordLen i xs) n d)
+    (stash.stash-known h (bodyD h desk) (bodyE h desk) (known desk g .bodies .1 .1 .0))
+
 -- that a byte is below 256 is the caller's to say
 pub good-open : (desk : List ℕ) → goodDesk desk ≡ true → statusOf desk ≡ openStatus → roomOf desk ≤ 255 → OpenDesk desk
 good-open desk g st room =
-    let h : Shape = shapeOf desk in
     let k : Good desk = good-conditions desk g in
     let w = known desk g in
     let ne : statusOf desk ≡ 0 → ⊥ = λ e. omega arith in
-    let s = stash.stash-known h (bodyD h desk) (bodyE h desk) (w .bodies .1 .1 .0) in
-    let n : number 2 (bodyE h desk) 0 ≡ stashCount desk = number-drop 2 desk (eAt h) 0 ∙ ap (number 2 desk) (add-zero (eAt h)) in
-    let d : drop countLen (bodyE h desk) ≡ stashSlots desk = drop-drop countLen (eAt h) desk in
-    let bs : blocksBy recordLen (number 2 (bodyE h desk) 0) (drop countLen (bodyE h desk)) ≡ stashOf desk = ap₂ (λ (i : ℕ) (xs : List ℕ). blocksBy recordLen i xs) n d in
     record {
       whole = record { size = w .size; small = good-small desk g room };
       range = w .head .sizes;
@@ -102,7 +107,7 @@ good-open desk g st room =
       count = k .count-high;
       used = k .id-low;
       known = k .id-high;
-      once = λ id. rising-once 0 id (stashOf desk) (subst (λ (cs : List Block). Rising 0 cs) bs (s .rising));
+      once = λ id. rising-once 0 id (stashOf desk) (good-stash desk g .rising);
     }
 
 -- the three tests of the code are all the checks

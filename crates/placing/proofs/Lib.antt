@@ -4,5 +4,6 @@ pub mod Placing
 pub mod Walked
 pub mod Given
 pub mod Ordered
+pub mod Turns
 pub mod Laid
 pub mod Planned

@@ -23,8 +23,8 @@ use Rattle.asks.proofs.Opened.{opened-changed, opened-good, opened-kind, opened
 use Rattle.keeping.proofs.Carry.{same-position, inv-kept}
 use Rattle.promises.specs.Stores.{ours, Start, Request}
 use Rattle.promises.specs.Steps.{State, askFor, afterAsk, onlyDesk}
+use Rattle.promises.proofs.Answers.{leaf-asked}
 use Rattle.promises.proofs.One.{demand-one}
-use Rattle.promises.proofs.Moves.{leaf-asked}
 use Rattle.promises.proofs.Stands.{Stands}
 
 module _ (m : Means) (b : Start) (st : State) (v : Stands m b st) where

@@ -1,6 +1,6 @@
 -- A store that works at the first finish and then only echoes is shut out by demand 2: a record is written, and read back over an honest server. Assumes
 -- nothing but what is asked of digest and cipher.
-use Prim.Native.Nat.{ℕ, _≤_}
+use Prim.Native.Nat.{ℕ, _-_, _≤_}
 use mathlib.Core.Path.{_≡_, refl, sym, ap, subst, _∙_}
 use mathlib.Core.Bool.{Bool, true}
 use mathlib.Core.Option.{some}
@@ -33,10 +33,9 @@ use Rattle.promises.specs.Stores.{Request, Accepted}
 use Rattle.promises.specs.Steps.{State, asks, finishes, afterAsk, accepted, afterFinish, after, askFor, finishFor, returned, Reached}
 use Rattle.promises.specs.DemandTwo.{Kept, DemandTwo}
 use Rattle.promises.specs.Wrong.{echo, echoIf, echoing}
-use Rattle.promises.proofs.One.{answer-accepted, finished-done}
+use Rattle.promises.proofs.Answers.{answer-accepted, finished-done, leaf-asked}
 use Rattle.promises.proofs.Past.{done-through}
 use Rattle.promises.proofs.FinishStep.{path-size}
-use Rattle.promises.proofs.Moves.{leaf-asked}
 use Rattle.promises.proofs.Two.{returned-agrees}
 use Rattle.promises.proofs.Exists.{first-stands, first-open, first-unwritten, anything, first-accepted}
 use Rattle.promises.proofs.More.{reached-more}
@@ -46,9 +45,9 @@ use Rattle.promises.proofs.Wrong.{small, lent, small-proper, writing, w
 abbrev reading : Request
 reading = record { kind = Read; id = 1; leaf = 1; content = [] }
 
--- a buffer that does not hold zeros
+-- a record buffer that does not hold zeros
 abbrev ones : List ℕ
-ones = 1 ∷ []
+ones = 1 ∷ zeros (recordLen - 1)
 
 module _ (m : Means) (o : Sound m) (d : DemandTwo m (echoing m)) where
   abbrev one : State

@@ -22,14 +22,14 @@ use Rattle.items.specs.Items.{Means}
 use Rattle.items.specs.Way.{reachable}
 use Rattle.opening.specs.Opening.{viewOf, isWorn, lastCounter, genuine, worn, Genuine}
 use Rattle.opening.proofs.Genuine.{genuine-checks, checks-genuine}
+use Rattle.opening.proofs.Tests.{no-true}
 use Rattle.store.specs.declared.Finished.{Finished}
 use Rattle.store.specs.declared.Finished.the-variants as finished
 use Rattle.store.specs.Steps.{answerFor, wasMarked, newStash}
 use Rattle.store.specs.Finish.{finishOf, finishChecked, finishedOr}
-use Rattle.keeping.proofs.Lists.{no-true, both}
 use Rattle.promises.specs.Stores.{ours, Accepted}
 use Rattle.promises.specs.DemandTwo.{Ready, WornOut, Exactly}
-use Rattle.promises.proofs.One.{answer-accepted, finished-refused}
+use Rattle.promises.proofs.Answers.{answer-accepted, finished-refused}
 
 -- for words
 fails-at : (p : ℕ → Bool) (n : ℕ) → all n p ≡ false → (i : ℕ) × (i < n) × (p i ≡ false)
@@ -39,7 +39,7 @@ fails-at p (suc n) h =
     byCases (p n)
     (λ e.
     byCases (all n p)
-    (λ f. absurd (no-true (sym (both (all n p) (p n) f e) ∙ h)))
+    (λ f. absurd (no-true (sym (rw (f, e) refl) ∙ h)))
     (λ f. let i = fails-at p n f in (i .0, omega (arith, i .1), i .2)))
     (λ e. (n, omega arith, e))
 

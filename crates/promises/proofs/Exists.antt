@@ -1,30 +1,28 @@
 -- There are runs: what stands after format, and at the first request. Assumes nothing but what is asked of digest and cipher.
 use Prim.Native.Nat.{ℕ, zero, suc, _-_, _<_, _≤_}
 use mathlib.Core.Path.{_≡_, refl, sym, ap, ap₂, subst, _∙_}
-use mathlib.Core.Bool.{Bool, true, false, not}
-use mathlib.Core.Option.{none, some}
+use mathlib.Core.Logic.{_≢_}
+use mathlib.Core.Bool.{true, false}
 use mathlib.Core.List.{List, _∷_}
 use native.Mathlib.Omega.{arith}
 use lib.ListN.{length, getD, drop}
 use lib.Dec.{eqb, ltb}
 use borrow.Author.Tests.{eq-eqb, lt-ltb}
 use Rattle.words.specs.Tests.{all}
-use Rattle.words.proofs.Tests.{byCases, and-left, all-true}
+use Rattle.words.proofs.Tests.{and-left, all-true}
 use Rattle.sizes.specs.declared.Sizes.{Sizes}
+use Rattle.sizes.specs.declared.Refusal.the-variants.{Full}
 use Rattle.sizes.specs.declared.Outcome.the-variants.{Done}
 use Rattle.sizes.specs.Sizes.{leaves, recordLen, keyLen, pathLen, deskLen}
 use Rattle.sizes.proofs.Lengths.{range-sizes}
-use Rattle.bags.specs.Bags.{cnt}
-use Rattle.bags.proofs.Bags.{cnt-true}
-use Rattle.slots.specs.Slots.{Block}
-use Rattle.desk.specs.Layout.{idsOf}
-use Rattle.desk.specs.Readers.{writtenOf, isWritten, statusOf, idAsked}
+use Rattle.desk.specs.Readers.{writtenOf, isWritten, statusOf, kindAsked}
 use Rattle.desk.specs.Status.{readyStatus, openStatus}
 use Rattle.desk.proofs.Known.{ids-good}
 use Rattle.items.specs.declared.View.{View}
 use Rattle.items.specs.Items.{Means, Sound}
 use Rattle.items.specs.Way.{reachable}
-use Rattle.opening.specs.Opening.{viewOf, isId}
+use Rattle.opening.specs.Opening.{viewOf}
+use Rattle.opening.proofs.Tests.{no-true}
 use Rattle.asks.specs.declared.Asked.{Asked}
 use Rattle.asks.specs.declared.Asked.the-variants as asked
 use Rattle.asks.specs.Ask.{recordFits, askOf, opened}
@@ -32,25 +30,22 @@ use Rattle.asks.proofs.Passed.{AskPassed}
 use Rattle.asks.proofs.Opened.{opened-changed}
 use Rattle.formats.specs.Format.{formatChecked, formatted}
 use Rattle.formats.proofs.Formatted.{new-written, new-status}
-use Rattle.store.specs.Steps.{newStash}
-use Rattle.keeping.specs.Server.{Agrees}
-use Rattle.keeping.specs.Table.{tableBlocks}
-use Rattle.keeping.proofs.Lists.{no-true, cnt-both}
-use Rattle.keeping.proofs.Held.{none-of, few}
-use Rattle.keeping.proofs.PlacedStep.{moved, after, bag}
+use Rattle.store.specs.declared.Finished.the-variants as finished
+use Rattle.store.specs.Steps.{newStash, wasMarked}
+use Rattle.store.specs.Finish.{finishChecked}
 use Rattle.promises.specs.Stores.{ours, Start, formatFor, Request, Accepted}
-use Rattle.promises.specs.Steps.{State, begin, asks, afterAsk, askFor, finishFor, returned}
+use Rattle.promises.specs.Steps.{State, begin, asks, afterAsk, askFor, finishFor, returned, Reached}
 use Rattle.promises.specs.Steps as steps
 use Rattle.promises.specs.DemandTwo.{Ready, WornOut}
 use Rattle.promises.specs.DemandThree.{Around, finishThen, shownIf, goOn, shows, Run, leavesOf}
 use Rattle.promises.specs.Exists.{Proper, InBounds, Exists}
-use Rattle.promises.proofs.Three.{passed, format-desk}
-use Rattle.promises.proofs.Moves.{leaf-asked}
+use Rattle.promises.proofs.Answers.{finished-refused, leaf-asked, passed, format-desk}
 use Rattle.promises.proofs.Stands.{Stands, none-some, begin-stands}
 use Rattle.promises.proofs.AskStep.{ask-takes, opened-stands}
-use Rattle.promises.proofs.FinishStep.{asks-of}
 use Rattle.promises.proofs.Kept.{kept}
-use Rattle.promises.proofs.Two.{returned-agrees}
+use Rattle.promises.proofs.Two.{returned-agrees, reached-stands}
+use Rattle.promises.proofs.Room.{left-few, one-left}
+use Rattle.promises.proofs.Past.{late-ready}
 
 -- ---- format takes a proper start
 
@@ -78,41 +73,6 @@ reach-root v path (suc k) h = reach-root v path k (and-left (reachable v path k)
 
 pub not-worn : (m : Means) (desk path : List ℕ) → isWritten desk ≡ false → WornOut m desk path → ⊥
 not-worn m desk path e w = no-true (sym (reach-root (viewOf desk) path (w .0) (w .1 .1)) ∙ e)
-
--- ---- with nothing written before, at most one block is left over
-
-module _ (m : Means) (o : Sound m) (b : Start) (byte : b .room < 256) (st : State) (v : Stands m b st) (s : statusOf (st .desk) ≡ openStatus)
-    (empty : (u : ℕ) → st .table u ≡ none) (path : List ℕ) (fair : Agrees (viewOf (st .desk)) (st .server) path) where
-  abbrev desk : List ℕ
-  desk = st .desk
-
-  abbrev over : List Block
-  over = newStash m desk path
-
-  busy : statusOf desk ≡ readyStatus → ⊥
-  busy e = omega arith
-
-  pub one-left : length over ≤ 1
-  one-left =
-      let k = asks-of desk (v .good) s in
-      let d = moved m desk path (st .server) (st .table) (v .good) busy (v .inv) k fair in
-      let t = after m desk path (st .server) (st .table) (v .good) busy (v .inv) k fair in
-      let id = idAsked desk in
-      let others : Block → Bool = λ c. not (isId id c) in
-      let z : cnt others (tableBlocks d t (idsOf desk)) ≡ 0 =
-      none-of d t others (idsOf desk) (λ u r g l h. only u r h) (idsOf desk) (omega arith) in
-      omega (
-        arith,
-        cnt-true over,
-        cnt-both (isId id) over,
-        bag m desk path (st .server) (st .table) (v .good) busy (v .inv) k fair (isId id),
-        bag m desk path (st .server) (st .table) (v .good) busy (v .inv) k fair others,
-        few d t id (idsOf desk) .0,
-        z,
-      )
-    where
-      only : (u : ℕ) (r : List ℕ) → after m desk path (st .server) (st .table) (v .good) busy (v .inv) (asks-of desk (v .good) s) fair u ≡ some r → not (eqb u (idAsked desk)) ≡ false
-      only u r h = byCases (eqb u (idAsked desk)) (λ e. ap not e) (λ e. absurd (none-some r (sym (empty u) ∙ (rw e at h))))
 
 -- ---- the first request
 
@@ -186,8 +146,8 @@ module _ (m : Means) (o : Sound m) (b : Start) (lent : List ℕ) (p : Proper b l
 
       pub first-few : length (newStash m (first .desk) path) ≤ 1
       first-few =
-          one-left m o b (p .room-byte) first first-stands first-open (λ u. refl) path
-          (returned-agrees m o b (p .room-byte) first first-stands first-open path anything)
+          one-left m o b (p .room-byte) first first-stands first-open path
+          (returned-agrees m o b (p .room-byte) first first-stands first-open path anything) (λ u. refl)
 
       pub first-not-worn : WornOut m (first .desk) path → ⊥
       first-not-worn = not-worn m (first .desk) path (ap (λ (x : ℕ). eqb x 1) first-unwritten)
@@ -196,6 +156,18 @@ module _ (m : Means) (o : Sound m) (b : Start) (lent : List ℕ) (p : Proper b l
       first-accepted w =
           let q = kept m o b (p .room-byte) first first-stands (returned b first) (returned-agrees m o b (p .room-byte) first first-stands) in
           q .otherwise path buffer anything first-ready first-not-worn (omega (arith, first-few))
+
+-- ---- a stash with room for every id is never full
+
+never-full : (m : Means) → Sound m → (b : Start) → b .room < 256 → b .ids ≤ b .room → (st : State) → Reached (ours m) b (returned b) st → (path buffer : List ℕ)
+    → returned b st path → finishFor (ours m) st path buffer .answer ≢ finished.Refused Full
+never-full m o b byte roomy st r path buffer h e =
+    let v = reached-stands m o b byte (returned b) (returned-agrees m o b byte) st r in
+    let y = late-ready m (st .desk) path buffer Full (omega arith)
+    (finished-refused (finishChecked m (st .desk) path buffer) (kindAsked (st .desk)) (wasMarked m (st .desk) path) Full e) in
+    let fair = returned-agrees m o b byte st v (y .status) path h in
+    let f = kept m o b byte st v (returned b st) (returned-agrees m o b byte st v) .full path buffer h y .0 e in
+    omega (arith, f .1, left-few m o b byte st v (y .status) path fair)
 
 -- ---- a run of demand 3
 
@@ -229,5 +201,6 @@ exists m o =
       first-finish =
           λ b lent p w r i path buffer l k.
           subst (λ (x : State). Accepted (finishFor (ours m) x path buffer .answer)) (sym (first-is m o b lent p r i)) (first-accepted m o b lent p r i path buffer l k w);
+      never-full = never-full m o;
       first-shown = λ n draws run u x us xs e es. run-shows m n draws run u x us xs e es;
     }

@@ -18,17 +18,15 @@ use Rattle.sizes.specs.declared.Outcome.the-variants.{Done, Refused}
 use Rattle.sizes.specs.Sizes.{recordLen, pathLen}
 use Rattle.desk.specs.declared.Kind.{Kind}
 use Rattle.desk.specs.declared.Kind.the-variants.{Read, Write}
-use Rattle.desk.specs.Layout.{idsOf, roomOf}
+use Rattle.desk.specs.Layout.{idsOf}
 use Rattle.desk.specs.Readers.{sizesOf, heightOf, statusOf, kindAsked, idAsked, recordAsked, leafAsked, positionOf}
-use Rattle.desk.specs.Status.{readyStatus, openStatus, mostStatus, atStatus, stopped, stoppedOr}
-use Rattle.desk.specs.Good.{goodDesk}
+use Rattle.desk.specs.Status.{openStatus, mostStatus, atStatus, stopped, stoppedOr}
 use Rattle.desk.proofs.Known.{known}
-use Rattle.desk.proofs.Exactly.{good-conditions}
 use Rattle.desk.proofs.Changed.{Changed, unchanged, status-changed, same-ids, same-room, same-sizes}
-use Rattle.desk.proofs.Frame.{good-sound, stop-sound, changed-good}
 use Rattle.items.specs.Items.{Means, Sound, counterOf}
 use Rattle.items.specs.Way.{item, reachable}
 use Rattle.opening.specs.Opening.{viewOf, lastCounter}
+use Rattle.opening.proofs.Tests.{no-true}
 use Rattle.asks.specs.Ask.{recordBytes}
 use Rattle.store.specs.declared.Finished.{Finished}
 use Rattle.store.specs.declared.Finished.the-variants as finished
@@ -36,28 +34,22 @@ use Rattle.store.specs.Steps.{placed, newPath, newDesk}
 use Rattle.store.specs.Finish.{finishOf, finishChecked, finishBy, FinishResult}
 use Rattle.keeping.specs.Server.{Server, Agrees, wrote}
 use Rattle.keeping.specs.Table.{Table, plainTable}
-use Rattle.keeping.proofs.Genuine.{Inv, Asks}
+use Rattle.keeping.proofs.Genuine.{Inv}
 use Rattle.keeping.proofs.TableStep.{tableAfter}
-use Rattle.keeping.proofs.PlacedStep.{position-new, position-old, laid}
+use Rattle.keeping.proofs.MovedStep.{Checked, position-new, position-old}
+use Rattle.keeping.proofs.PlacedStep.{laid}
 use Rattle.keeping.proofs.Written.{path-length}
-use Rattle.keeping.proofs.DeskStep.{partsNow, now-changed, now-good, inv-after}
+use Rattle.keeping.proofs.DeskStep.{partsNow, now-changed, now-good}
+use Rattle.keeping.proofs.InvStep.{inv-after}
 use Rattle.keeping.proofs.Carry.{inv-kept}
-use Rattle.keeping.proofs.Lists.{no-true}
 use Rattle.promises.specs.Stores.{Start, Request, Accepted}
 use Rattle.promises.specs.Steps.{State, onlyDesk, tableDone, accepted, afterFinish}
-use Rattle.promises.proofs.One.{finished-refused, finished-done}
-use Rattle.promises.proofs.Three.{accept-record, accept-never, accept-done}
+use Rattle.promises.proofs.Answers.{accept-record, accept-never, accept-done, finished-refused, finished-done}
 use Rattle.promises.proofs.Exactly.{out-worn}
-use Rattle.promises.proofs.Past.{late-ready, Through, done-through}
+use Rattle.promises.proofs.Past.{late-ready, Through, through-checked, done-through}
+use Rattle.promises.proofs.Finishes.{stop-good}
 use Rattle.promises.proofs.Stands.{Stands}
 use Rattle.promises.proofs.AskStep.{same-desk}
-
--- an open request names an id, at a leaf
-pub asks-of : (desk : List ℕ) → goodDesk desk ≡ true → statusOf desk ≡ openStatus → Asks desk
-asks-of desk g s =
-    let k = good-conditions desk g in
-    let n : statusOf desk ≡ readyStatus → ⊥ = λ e. omega arith in
-    record { low = k .every-position (idAsked desk) (k .asked-low n) (k .asked-high n); id-low = k .asked-low n; id-high = k .asked-high n }
 
 -- a record of a read is not looked at
 same-table : (kind : Kind) (id : ℕ) (content : List ℕ) (table : Table) → plainTable kind id (recordBytes recordLen kind content) table ≡ plainTable kind id content table
@@ -74,7 +66,7 @@ module _ (m : Means) (o : Sound m) (b : Start) (byte : b .room < 256) (st : Stat
   stopped-stands t low high s =
       let c = status-changed (known desk (v .good) .size) (unchanged desk) t in
       record {
-        good = changed-good (v .good) c (stop-sound t (good-sound desk (v .good)) (λ e. omega arith) (λ e. omega arith) high);
+        good = stop-good desk t low high s (v .good);
         inv = inv-kept c refl refl refl refl m (st .server) (st .table) (v .inv);
         sizes = same-sizes (c .same) ∙ v .sizes;
         key = c .same .key ∙ v .key;
@@ -102,14 +94,8 @@ module _ (m : Means) (o : Sound m) (b : Start) (byte : b .room < 256) (st : Stat
   -- ---- a request that is done
 
   module _ (t : Through m desk path buffer) (fair : Agrees (viewOf desk) (st .server) path) where
-    pub busy : statusOf desk ≡ readyStatus → ⊥
-    busy e = omega (arith, t .ready .status)
-
-    pub asks : Asks desk
-    asks = asks-of desk (v .good) (t .ready .status)
-
-    pub small : roomOf desk < 65536
-    small = omega (arith, v .room)
+    pub checked : Checked m desk path
+    checked = through-checked m desk path buffer t (omega (arith, v .room))
 
     pub fresh : (k : ℕ) → k ≤ heightOf desk → reachable (viewOf desk) path k ≡ true → counterOf (item (viewOf desk) path k) ≢ lastCounter
     fresh k l r e = no-true (sym (out-worn m desk path (k, (l, r), e)) ∙ t .not-worn)
@@ -117,13 +103,13 @@ module _ (m : Means) (o : Sound m) (b : Start) (byte : b .room < 256) (st : Stat
     abbrev now : List ℕ
     now = newDesk m desk path
 
-    pub changed : Changed desk now (partsNow m o desk path (st .server) (st .table) (v .good) busy (v .inv) asks fair (t .fits) small fresh)
-    changed = now-changed m o desk path (st .server) (st .table) (v .good) busy (v .inv) asks fair (t .fits) small fresh
+    pub changed : Changed desk now (partsNow m o desk path checked (t .fits))
+    changed = now-changed m o desk path checked (t .fits)
 
     pub path-size : length (newPath m desk path) ≡ pathLen (b .sizes)
     path-size =
         subst (λ (z : Sizes). length (newPath m desk path) ≡ pathLen z) (v .sizes)
-        (path-length m o (viewOf desk) path (placed m desk path) (fair .size) (laid m desk path (st .server) (st .table) (v .good) busy (v .inv) asks fair))
+        (path-length m o (viewOf desk) path (placed m desk path) (fair .size) (laid m o desk path checked))
 
     position-is : (u : ℕ) → 1 ≤ u → u ≤ b .ids → positionOf now u ≡ st .drawn u
     position-is u g l =
@@ -132,9 +118,9 @@ module _ (m : Means) (o : Sound m) (b : Start) (byte : b .room < 256) (st : Stat
         byCases (eqb u (idAsked desk))
         (λ q.
         ap (positionOf now) (eqb-true u (idAsked desk) q)
-        ∙ position-new m desk path (st .server) (st .table) (v .good) busy (v .inv) asks fair changed refl ∙ (rw q at w))
+        ∙ position-new m desk path checked changed refl ∙ (rw q at w))
         (λ q.
-        position-old m desk path (st .server) (st .table) (v .good) busy (v .inv) asks fair changed refl u g n (eqb-false u (idAsked desk) q) ∙ (rw q at w))
+        position-old m desk path checked changed refl u g n (eqb-false u (idAsked desk) q) ∙ (rw q at w))
 
     -- the book's table and server are the invariant's
     table-is : tableAfter desk (st .table) ≡ tableDone (st .open-request) (st .table)
@@ -165,11 +151,11 @@ module _ (m : Means) (o : Sound m) (b : Start) (byte : b .room < 256) (st : Stat
     done-stands =
         let c = changed in
         record {
-          good = now-good m o desk path (st .server) (st .table) (v .good) busy (v .inv) asks fair (t .fits) small fresh;
+          good = now-good m o desk path checked (t .fits);
           inv =
               subst (λ (x : Table). Inv m now (wrote (b .sizes) (st .leaf-asked) (newPath m desk path) (st .server)) x) table-is
               (subst (λ (x : Server). Inv m now x (tableAfter desk (st .table))) server-is
-              (inv-after m o desk path (st .server) (st .table) (v .good) busy (v .inv) asks fair (t .fits) small fresh));
+              (inv-after m o desk path (st .server) (st .table) checked (v .inv) fair (t .fits) fresh));
           sizes = same-sizes (c .same) ∙ v .sizes;
           key = c .same .key ∙ v .key;
           ids = same-ids (c .same) ∙ v .ids;

@@ -20,9 +20,10 @@ use Rattle.desk.specs.Layout.{eAt, idsOf, shapeOf}
 use Rattle.desk.specs.Readers.{sizesOf, heightOf, keyOf, rootOf, isWritten, statusOf, kindAsked, idAsked, leafAsked, stashCount, stashOf}
 use Rattle.desk.specs.Status.{readyStatus, openStatus}
 use Rattle.desk.proofs.Exactly.{good-conditions}
-use Rattle.items.specs.Items.{Means, Sound, counterOf, flagOf, digestOf, itemDigest, blocksIn}
+use Rattle.items.specs.Items.{Means, Sound, counterOf, flagOf, digestOf, itemDigest, blocksIn, slotsOpened}
 use Rattle.items.specs.Way.{bucket}
 use Rattle.opening.specs.Opening.{viewOf, isId, Genuine}
+use Rattle.opening.proofs.Tests.{no-true}
 use Rattle.writing.specs.Writing.{newDigest, written}
 use Rattle.store.specs.declared.Finished.{Finished}
 use Rattle.store.specs.declared.Finished.the-variants as finished
@@ -30,22 +31,21 @@ use Rattle.store.specs.Steps.{placed, newStash, newPath, newDesk, wasMarked}
 use Rattle.store.specs.Finish.{finishOf, finishChecked}
 use Rattle.keeping.specs.Server.{Agrees, standing}
 use Rattle.keeping.specs.Table.{isHeld, plainAnswer, plainBuffer, placeOf, everWritten}
-use Rattle.keeping.proofs.Lists.{no-true}
-use Rattle.keeping.proofs.Genuine.{agrees-genuine}
+use Rattle.keeping.proofs.Genuine.{asks-of, agrees-genuine}
 use Rattle.keeping.proofs.Plain.{answers-plain}
 use Rattle.keeping.proofs.OnePlace.{one-place, how-many}
-use Rattle.keeping.proofs.PlacedStep.{laid}
-use Rattle.keeping.proofs.Written.{Lies, newItem, digestBelow, item-new, flag-new, digest-new, blocks-new, counter-new}
+use Rattle.keeping.proofs.PlacedStep.{laid, buckets-rising}
+use Rattle.keeping.proofs.Written.{Lies, newItem, digestBelow, item-new, flag-new, digest-new, blocks-new, counter-new, slots-new}
 use Rattle.keeping.proofs.TreeStep.{count-low}
 use Rattle.promises.specs.Stores.{ours, Start, Request, Accepted}
 use Rattle.promises.specs.Steps.{State}
 use Rattle.promises.specs.DemandTwo.{Ready, WornOut, blocksOfStore, Writes, Kept}
-use Rattle.promises.proofs.One.{finished-refused, finished-done}
+use Rattle.promises.proofs.Answers.{finished-refused, finished-done}
 use Rattle.promises.proofs.Exactly.{exactly}
 use Rattle.promises.proofs.Past.{late-ready, Through, done-through}
 use Rattle.promises.proofs.Stands.{Stands}
 use Rattle.promises.proofs.AskStep.{ask-takes, ask-shows}
-use Rattle.promises.proofs.FinishStep.{asks-of, busy, asks, fresh, changed}
+use Rattle.promises.proofs.FinishStep.{checked, fresh, changed}
 
 same-request : (q r : Request) → some q ≡ some r → q ≡ r
 same-request q r e = cc
@@ -118,14 +118,14 @@ module _ (m : Means) (o : Sound m) (b : Start) (byte : b .room < 256) (st : Stat
           let f : q .request ≡ r = same-request (q .request) r (sym (q .is) ∙ e) in
           let k : kindAsked desk ≡ r .kind = q .holds .kind ∙ ap (λ (x : Request). x .kind) f in
           let i : idAsked desk ≡ r .id = q .holds .id ∙ ap (λ (x : Request). x .id) f in
-          let p = answers-plain m desk path (st .server) (st .table) (v .inv) (asks m o b byte st v path buffer through fair) fair buffer in (
+          let p = answers-plain m desk path (st .server) (st .table) (v .inv) (asks-of desk (v .good) (through .ready .status)) fair buffer in (
             rw is-done (p .0 ∙ ap₂ (λ (x : Kind) (u : ℕ). plainAnswer x (st .table u)) k i),
             rw is-done (p .1 ∙ ap₂ (λ (x : Kind) (u : ℕ). plainBuffer x (st .table u) buffer) k i),
           )
 
       lies : (k : ℕ) → k ≤ heightOf desk → Lies (sizesOf desk) (leafAsked desk) k (getD (placed m desk path) (heightOf desk - k) [])
       lies =
-          laid m desk path (st .server) (st .table) (v .good) (busy m o b byte st v path buffer through fair) (v .inv) (asks m o b byte st v path buffer through fair) fair
+          laid m o desk path (checked m o b byte st v path buffer through fair)
 
       item-is : (k : ℕ) → k ≤ heightOf desk
           → itemOf (sizesOf desk) (newPath m desk path) k ≡ newItem m o (viewOf desk) path (placed m desk path) (fair .size) lies k
@@ -135,10 +135,12 @@ module _ (m : Means) (o : Sound m) (b : Start) (byte : b .room < 256) (st : Stat
       unfolding digestBelow
       writes-new k h =
           let s = sizesOf desk in
-          let low = count-low m o (viewOf desk) path (st .server) (asks m o b byte st v path buffer through fair .low) (v .inv .tied) fair (placed m desk path) lies
+          let low = count-low m o (viewOf desk) path (st .server) (asks-of desk (v .good) (through .ready .status) .low) (v .inv .tied) fair (placed m desk path) lies
           (fresh m o b byte st v path buffer through fair) k h in
           record {
             counter = ap counterOf (item-is k h) ∙ counter-new m o (viewOf desk) path (placed m desk path) (fair .size) lies k h low;
+            slots = ap (slotsOpened m s (keyOf desk) (bucket (viewOf desk) k)) (item-is k h) ∙ slots-new m o (viewOf desk) path (placed m desk path) (fair .size) lies k h;
+            rising = buckets-rising m o desk path (checked m o b byte st v path buffer through fair) (heightOf desk - k);
             blocks = ap (blocksIn m s (keyOf desk) (bucket (viewOf desk) k)) (item-is k h) ∙ blocks-new m o (viewOf desk) path (placed m desk path) (fair .size) lies k h;
             flags =
                 λ l side j. ap (λ (x : List ℕ). flagOf s x side) (item-is k h) ∙ flag-new m o (viewOf desk) path (placed m desk path) (fair .size) lies k side l j;
@@ -181,6 +183,10 @@ module _ (m : Means) (o : Sound m) (b : Start) (byte : b .room < 256) (st : Stat
   kept hands agree =
       record {
         good = v .good;
+        sizes = v .sizes;
+        key = v .key;
+        ids = v .ids;
+        room = v .room;
         opens = λ s. let q = v .opens s in (q .request, q .is, q .holds);
         is-ready = v .is-ready;
         takes = ask-takes m b st v;

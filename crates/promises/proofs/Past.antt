@@ -20,8 +20,10 @@ use Rattle.desk.specs.Status.{readyStatus, firstStopped}
 use Rattle.desk.specs.Good.{goodDesk}
 use Rattle.items.specs.Items.{Means}
 use Rattle.opening.specs.Opening.{genuine, worn}
+use Rattle.opening.proofs.Genuine.{genuine-checks}
 use Rattle.store.specs.Steps.{newStash}
 use Rattle.store.specs.Finish.{finishRows, finishChecked}
+use Rattle.keeping.proofs.MovedStep.{Checked}
 use Rattle.promises.specs.DemandTwo.{Ready}
 
 same-number : (p q : Refusal) → Refused p ≡ Refused q → numberOf p ≡ numberOf q
@@ -63,6 +65,16 @@ module _ (m : Means) (desk path buffer : List ℕ) where
     pub genuine-is : genuine m desk path ≡ true
     pub not-worn : worn m desk path ≡ false
     pub fits : length (newStash m desk path) ≤ roomOf desk
+
+  pub through-checked : Through → roomOf desk ≤ 255 → Checked m desk path
+  through-checked t room =
+      record {
+        good = t .ready .good;
+        status = t .ready .status;
+        byte = room;
+        size = t .ready .path-length;
+        genuine = genuine-checks m desk path (t .genuine-is);
+      }
 
   pub done-through : finishChecked m desk path buffer ≡ Done → Through
   unfolding finishChecked

@@ -10,17 +10,15 @@ use Rattle.sizes.specs.declared.Refusal.{Refusal}
 use Rattle.sizes.specs.declared.Refusal.the-variants.{BadDesk}
 use Rattle.sizes.specs.declared.Outcome.{Outcome}
 use Rattle.sizes.specs.declared.Outcome.the-variants.{Done, Refused}
-use Rattle.sizes.specs.Refusals.{firstOf}
+use Rattle.sizes.specs.Refusals.{numberOf, firstOf}
+use Rattle.sizes.proofs.Rows.{not-refused}
 use Rattle.promises.specs.DemandOne.{First, ByRows}
-
-pub done-refused : (q : Refusal) → Done ≡ Refused q → ⊥
-done-refused q h = let z : _≡_ {A = ℕ} 0 1 = cc in omega arith
 
 abbrev at : List (Bool × Refusal) → ℕ → Bool × Refusal
 at rows i = getD rows i (false, BadDesk)
 
 first-of : (rows : List (Bool × Refusal)) (q : Refusal) → firstOf rows ≡ Refused q → First rows q
-first-of [] q h = absurd (done-refused q h)
+first-of [] q h = absurd (not-refused q (sym h))
 first-of (row ∷ rows) q h =
     byCases (row .0)
     (λ e.
@@ -46,7 +44,7 @@ none-of : (rows : List (Bool × Refusal)) → firstOf rows ≡ Done → (i : ℕ
 none-of [] h i l = absurd (omega arith)
 none-of (row ∷ rows) h i l =
     byCases (row .0)
-    (λ e. absurd (done-refused (row .1) (sym (rw e at h))))
+    (λ e. absurd (not-refused (row .1) (rw e at h)))
     (λ e. by e i l (none-of rows (rw e at h)))
   where
     by : row .0 ≡ false → (i : ℕ) → i < suc (length rows) → ((i : ℕ) → i < length rows → at rows i .0 ≡ false) → at (row ∷ rows) i .0 ≡ false
@@ -57,15 +55,21 @@ of-none : (rows : List (Bool × Refusal)) → ((i : ℕ) → i < length rows →
 of-none [] f = refl
 of-none (row ∷ rows) f = rw (f 0 (omega arith)) (of-none rows (λ i l. f (suc i) (omega arith)))
 
--- an answer that is refused exactly as the outcome of the rows is
-pub reads : {A : Type 0} (rows : List (Bool × Refusal)) (answer : A) (refused : Refusal → A) (o : Outcome) → o ≡ firstOf rows
-    → ((q : Refusal) → answer ≡ refused q → o ≡ Refused q) → ((q : Refusal) → o ≡ Refused q → answer ≡ refused q) → ByRows rows answer refused
-reads rows answer refused o e f g =
+-- an answer that is refused exactly as the outcome of the rows is, and has its number
+pub reads : {A : Type 0} (rows : List (Bool × Refusal)) (answer : A) (refused : Refusal → A) (number : A → ℕ) (o : Outcome) → o ≡ firstOf rows
+    → ((q : Refusal) → answer ≡ refused q → o ≡ Refused q) → ((q : Refusal) → o ≡ Refused q → answer ≡ refused q)
+    → ((q : Refusal) → number (refused q) ≡ numberOf q) → (o ≡ Done → number answer ≡ 0) → ByRows rows answer refused number
+reads rows answer refused number o e f g n z =
     record {
-      first = λ q. ((λ h. first-of rows q (sym e ∙ f q h)), λ k. g q (e ∙ of-first rows q (k .row) (k .inside) (k .applies) (k .none-before)));
-      none = ((λ h. none-of rows (sym e ∙ done o (λ q k. h q (g q k)))), λ h q k. done-refused q (sym (e ∙ of-none rows h) ∙ f q k));
+      first = λ q. ((λ h. first-of rows q (sym e ∙ f q h)), back q);
+      none = ((λ h. none-of rows (sym e ∙ done o (λ q k. h q (g q k)))), λ h q k. not-refused q (sym (f q k) ∙ e ∙ of-none rows h));
+      numbered = λ q k. ap number (back q k) ∙ n q;
+      no-number = λ h. z (e ∙ of-none rows h);
     }
   where
     done : (o : Outcome) → ((q : Refusal) → o ≡ Refused q → ⊥) → o ≡ Done
     done Done h = refl
     done (Refused q) h = absurd (h q refl)
+
+    back : (q : Refusal) → First rows q → answer ≡ refused q
+    back q k = g q (e ∙ of-first rows q (k .row) (k .inside) (k .applies) (k .none-before))

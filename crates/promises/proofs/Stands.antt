@@ -23,11 +23,11 @@ use Rattle.keeping.proofs.Standing.{nothing-stands}
 use Rattle.keeping.proofs.Held.{none-of}
 use Rattle.keeping.proofs.Tied.{tied-when}
 use Rattle.keeping.proofs.Genuine.{Inv}
-use Rattle.keeping.proofs.Lists.{no-true}
 use Rattle.promises.specs.Stores.{Start, formatFor, Request}
 use Rattle.promises.specs.Steps.{State, begin}
 use Rattle.promises.specs.DemandTwo.{Holds}
-use Rattle.promises.proofs.Three.{passed, format-desk}
+use Rattle.opening.proofs.Tests.{no-true}
+use Rattle.promises.proofs.Answers.{passed, format-desk}
 
 -- an open request: body (c) holds it, and the leaf in the book is the id's position
 pub record Opened (st : State) : Type 0 where

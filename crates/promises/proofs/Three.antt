@@ -1,5 +1,5 @@
--- Demand 3 holds of our store: a run of asks and finishes shows a beginning of what ids and draws alone decide. Assumes nothing but that a digest has
--- 32 bytes.
+-- Demand 3 holds of our store: a run of asks and finishes shows a beginning of what ids and draws alone decide. Assumes nothing but what is asked of digest
+-- and cipher.
 use Prim.Native.Nat.{ℕ, pred, _+_, _-_, _<_, _≤_}
 use mathlib.Core.Path.{_≡_, refl, sym, ap, ap₂, _∙_}
 use mathlib.Core.List.{List, [], _∷_, _++_}
@@ -7,10 +7,9 @@ use native.Mathlib.Omega.{arith}
 use lib.ListN.{length, getD, set, take, drop, length-append, length-map, length-drop, List·getD-append}
 use lib.Seq.{ext-getD, length-take-le, getD-take}
 use Rattle.sizes.specs.declared.Outcome.the-variants.{Done}
-use Rattle.sizes.specs.Sizes.{digestLen}
-use Rattle.desk.specs.Layout.{idsOf}
+use Rattle.desk.specs.Layout.{idsOf, roomOf}
 use Rattle.desk.specs.Readers.{positionOf}
-use Rattle.items.specs.Items.{Means}
+use Rattle.items.specs.Items.{Means, Sound}
 use Rattle.draws.specs.Draws.{AllGood, shown, leavesShown, lastDrawn, indices, rearrange, rearranged}
 use Rattle.draws.proofs.Numbers.{getD-map}
 use Rattle.draws.proofs.Shown.{length-shown, leaves-are}
@@ -21,34 +20,18 @@ use Rattle.asks.specs.declared.Asked.{Asked}
 use Rattle.asks.specs.declared.Asked.the-variants as asked
 use Rattle.asks.specs.Ask.{askOf}
 use Rattle.formats.specs.Format.{formatted}
-use Rattle.formats.proofs.Passed.{FormatPassed, format-passed}
-use Rattle.formats.proofs.Formatted.{new-ids, new-position}
+use Rattle.formats.proofs.Formatted.{new-ids, new-room, new-position}
 use Rattle.store.specs.declared.Finished.{Finished}
 use Rattle.store.specs.declared.Finished.the-variants as finished
 use Rattle.promises.specs.Stores.{ours, Start, formatFor, Accepted}
 use Rattle.promises.specs.DemandThree.{Around, finishThen, shownIf, goOn, shows, Run, leavesOf, DemandThree, ShownOnce, ShownLast}
-use Rattle.promises.proofs.Moves.{positions, length-positions, getD-positions, leaf-asked, moves}
-
-pub accept-record : Accepted finished.Record
-accept-record q h = let z : _≡_ {A = ℕ} 0 1 = cc in omega arith
-
-pub accept-never : Accepted finished.Never
-accept-never q h = let z : _≡_ {A = ℕ} 0 1 = cc in omega arith
-
-pub accept-done : Accepted finished.Done
-accept-done q h = let z : _≡_ {A = ℕ} 0 1 = cc in omega arith
+use Rattle.promises.proofs.Answers.{leaf-asked, accept-record, accept-never, accept-done, passed, format-desk}
+use Rattle.promises.proofs.Moves.{positions, length-positions, getD-positions, moves}
 
 -- ---- a formatted desk
 
 abbrev new : Start → List ℕ
 new b = formatted (b .sizes .height) (b .sizes .slots) (b .room) (b .ids) (b .key) (b .starts)
-
-pub passed : (b : Start) (lent : List ℕ) → formatFor b lent .answer ≡ Done → FormatPassed lent (b .sizes .height) (b .sizes .slots) (b .room) (b .ids) (b .key) (b .starts)
-passed b lent h = format-passed lent (b .sizes .height) (b .sizes .slots) (b .room) (b .ids) (b .key) (b .starts) h
-
-pub format-desk : (b : Start) (lent : List ℕ) → formatFor b lent .answer ≡ Done
-    → formatFor b lent .desk ≡ formatted (b .sizes .height) (b .sizes .slots) (b .room) (b .ids) (b .key) (b .starts)
-format-desk b lent h = rw h refl
 
 start-positions : (b : Start) (lent : List ℕ) → formatFor b lent .answer ≡ Done → positions (b .ids) (new b) ≡ b .starts
 start-positions b lent h =
@@ -63,26 +46,30 @@ start-positions b lent h =
 
 -- ---- a run shows a beginning
 
+-- N, and S is a byte
+abbrev Sized : ℕ → List ℕ → Type 0
+Sized n desk = (idsOf desk ≡ n) × (roomOf desk < 256)
+
 abbrev Begins : List ℕ → List ℕ → Type 0
 Begins part whole = (r : List ℕ) × (part ++ r ≡ whole)
 
-module _ (m : Means) (digests : (xs : List ℕ) → length (m .digest xs) ≡ digestLen) (n : ℕ) where
+module _ (m : Means) (o : Sound m) (n : ℕ) where
   leaf-is : (desk : List ℕ) (u x p : ℕ) (e : Around) → 0 < u → u ≤ n → askOf desk (e .kind) u x (e .content) .answer ≡ asked.Leaf p → p ≡ getD (positions n desk) (pred u) 0
   leaf-is desk u x p e g l h =
       leaf-asked desk (e .kind) u x (e .content) p h .position ∙ sym (getD-positions n desk (pred u) (omega arith) ∙ ap (positionOf desk) (omega arith))
 
   -- after an accepted finish the run goes on as from the new positions; after a refusal it shows no more
-  on-finish : (desk : List ℕ) (u x p : ℕ) (e : Around) (us xs : List ℕ) (more : List ℕ) → idsOf desk ≡ n → 0 < u → u ≤ n
+  on-finish : (desk : List ℕ) (u x p : ℕ) (e : Around) (us xs : List ℕ) (more : List ℕ) → Sized n desk → 0 < u → u ≤ n
       → askOf desk (e .kind) u x (e .content) .answer ≡ asked.Leaf p
-      → (idsOf (finishThen (ours m) desk u x e .desk) ≡ n → Begins more (shown (positions n (finishThen (ours m) desk u x e .desk)) us xs))
+      → (Sized n (finishThen (ours m) desk u x e .desk) → Begins more (shown (positions n (finishThen (ours m) desk u x e .desk)) us xs))
       → (f : Finished) → finishThen (ours m) desk u x e .answer ≡ f
       → Begins (p ∷ goOn f more) (getD (positions n desk) (pred u) 0 ∷ shown (set (positions n desk) (pred u) x) us xs)
   on-finish desk u x p e us xs more q g l h ih f k = go f k
     where
       on : Accepted (finishThen (ours m) desk u x e .answer) → Begins (p ∷ more) (getD (positions n desk) (pred u) 0 ∷ shown (set (positions n desk) (pred u) x) us xs)
       on a =
-          let v = moves m digests n desk u x p e q h a in
-          let i = ih (v .ids) in
+          let v = moves m o n desk u x p e (q .0) (q .1) h a in
+          let i = ih (v .ids, omega (arith, v .room, q .1)) in
           (i .0, ap₂ (λ (y : ℕ) (ys : List ℕ). y ∷ ys) (leaf-is desk u x p e g l h) (i .1 ∙ ap (λ (ps : List ℕ). shown ps us xs) (v .now)))
 
       go : (f : Finished) → finishThen (ours m) desk u x e .answer ≡ f
@@ -93,15 +80,15 @@ module _ (m : Means) (digests : (xs : List ℕ) → length (m .digest xs) ≡ di
       go (finished.Refused r) k =
           (shown (set (positions n desk) (pred u) x) us xs, ap (λ (y : ℕ). y ∷ shown (set (positions n desk) (pred u) x) us xs) (leaf-is desk u x p e g l h))
 
-  on-ask : (desk : List ℕ) (u x : ℕ) (e : Around) (us xs : List ℕ) (more : List ℕ) → idsOf desk ≡ n → 0 < u → u ≤ n
-      → (idsOf (finishThen (ours m) desk u x e .desk) ≡ n → Begins more (shown (positions n (finishThen (ours m) desk u x e .desk)) us xs))
+  on-ask : (desk : List ℕ) (u x : ℕ) (e : Around) (us xs : List ℕ) (more : List ℕ) → Sized n desk → 0 < u → u ≤ n
+      → (Sized n (finishThen (ours m) desk u x e .desk) → Begins more (shown (positions n (finishThen (ours m) desk u x e .desk)) us xs))
       → (a : Asked) → askOf desk (e .kind) u x (e .content) .answer ≡ a
       → Begins (shownIf a (λ p. p ∷ goOn (finishThen (ours m) desk u x e .answer) more))
       (getD (positions n desk) (pred u) 0 ∷ shown (set (positions n desk) (pred u) x) us xs)
   on-ask desk u x e us xs more q g l ih (asked.Leaf p) h = on-finish desk u x p e us xs more q g l h ih (finishThen (ours m) desk u x e .answer) refl
   on-ask desk u x e us xs more q g l ih (asked.Refused r) h = (getD (positions n desk) (pred u) 0 ∷ shown (set (positions n desk) (pred u) x) us xs, refl)
 
-  begins : (desk us xs : List ℕ) (es : List Around) → AllGood n us → idsOf desk ≡ n → Begins (shows (ours m) desk us xs es) (shown (positions n desk) us xs)
+  begins : (desk us xs : List ℕ) (es : List Around) → AllGood n us → Sized n desk → Begins (shows (ours m) desk us xs es) (shown (positions n desk) us xs)
   unfolding shows shown
   begins desk [] xs es g q = ([], refl)
   begins desk (u ∷ us) [] es g q = ([], refl)
@@ -116,14 +103,16 @@ module _ (m : Means) (digests : (xs : List ℕ) → length (m .digest xs) ≡ di
       let b = r .start in
       let f = passed b (r .lent) (r .formats) in
       let d = format-desk b (r .lent) (r .formats) in
-      let q : idsOf (formatFor b (r .lent) .desk) ≡ n =
-      ap idsOf d ∙ new-ids (r .lent) (b .sizes .height) (b .sizes .slots) (b .room) (b .ids) (b .key) (b .starts) f ∙ r .ids in
+      let q : Sized n (formatFor b (r .lent) .desk) = (
+        ap idsOf d ∙ new-ids (r .lent) (b .sizes .height) (b .sizes .slots) (b .room) (b .ids) (b .key) (b .starts) f ∙ r .ids,
+        omega (arith, ap roomOf d, new-room (r .lent) (b .sizes .height) (b .sizes .slots) (b .room) (b .ids) (b .key) (b .starts) f, r .byte),
+      ) in
       let p : positions n (formatFor b (r .lent) .desk) ≡ take n ds = ap₂ positions (sym (r .ids)) d ∙ start-positions b (r .lent) (r .formats) ∙ r .starts in
       let k = begins (formatFor b (r .lent) .desk) us (drop n ds) (r .around) g q in
       (k .0, k .1 ∙ ap (λ (ps : List ℕ). shown ps us (drop n ds)) p)
 
   -- one leaf of it
-  leaf-at : (us ds : List ℕ) → AllGood n us → (r : Run n ds) → (j : ℕ) → j < length (leavesOf (ours m) n us ds r)
+  pub leaf-at : (us ds : List ℕ) → AllGood n us → (r : Run n ds) → (j : ℕ) → j < length (leavesOf (ours m) n us ds r)
       → getD (leavesOf (ours m) n us ds r) j 0 ≡ getD (leavesShown n us ds) j 0
   leaf-at us ds g r j k =
       let p = run-begins us ds g r in
@@ -134,21 +123,21 @@ module _ (m : Means) (digests : (xs : List ℕ) → length (m .digest xs) ≡ di
 
 -- ---- the demand
 
-module _ (m : Means) (digests : (xs : List ℕ) → length (m .digest xs) ≡ digestLen) where
-  pub demand-three : (m′ : Means) → ((xs : List ℕ) → length (m′ .digest xs) ≡ digestLen) → DemandThree (ours m) (ours m′)
-  demand-three m′ digests′ n us vs e g h = (
+module _ (m : Means) (o : Sound m) where
+  pub demand-three : (m′ : Means) → Sound m′ → DemandThree (ours m) (ours m′)
+  demand-three m′ o′ n us vs e g h = (
     rearrange-perm n us vs e g h,
     λ ds l r r′ j k k′.
-        leaf-at m digests n us ds g r j k ∙ ap (λ (ls : List ℕ). getD ls j 0) (sym (same-leaves n us vs e g h ds l))
-        ∙ sym (leaf-at m′ digests′ n vs (rearranged ds (rearrange n us vs)) h r′ j k′),
+        leaf-at m o n us ds g r j k ∙ ap (λ (ls : List ℕ). getD ls j 0) (sym (same-leaves n us vs e g h ds l))
+        ∙ sym (leaf-at m′ o′ n vs (rearranged ds (rearrange n us vs)) h r′ j k′),
   )
 
   pub shown-once : ShownOnce (ours m)
   shown-once n us ds g l r = (
     (λ j k.
         let a = leaves-are n us ds g l in
-        leaf-at m digests n us ds g r j k ∙ ap (λ (ls : List ℕ). getD ls j 0) a
-        ∙ getD-map (λ i. getD ds i 0) (indices n us) j (omega (arith, no-more m digests n us ds g r, simp length-map at (ap length a)))),
+        leaf-at m o n us ds g r j k ∙ ap (λ (ls : List ℕ). getD ls j 0) a
+        ∙ getD-map (λ i. getD ds i 0) (indices n us) j (omega (arith, no-more m o n us ds g r, simp length-map at (ap length a)))),
     never-twice n us g,
   )
 
@@ -158,7 +147,7 @@ module _ (m : Means) (digests : (xs : List ℕ) → length (m .digest xs) ≡ di
       let t : length (take n ds) ≡ n = length-take-le n ds (omega arith) in
       let d : length (drop n ds) ≡ length us = simp length-drop (omega arith) in
       let w = length-shown (take n ds) us (drop n ds) d in
-      let i : j < length us = omega (arith, no-more m digests n us ds g r) in
+      let i : j < length us = omega (arith, no-more m o n us ds g r) in
       let u = good-at n us g j i in
-      leaf-at m digests n us ds g r j k ∙ shown-last (take n ds) us (drop n ds) (rw t g) d j i
+      leaf-at m o n us ds g r j k ∙ shown-last (take n ds) us (drop n ds) (rw t g) d j i
       ∙ ap (λ (s : ℕ). lastDrawn s (getD us j 0) (take j us) (take j (drop n ds))) (getD-take n ds (pred (getD us j 0)) 0 (omega arith))

@@ -53,7 +53,7 @@ in-count s k j h l = omega (arith, pow-le-pow-right {n = 2} (omega arith) {i = k
 -- ---- fetch and put that are not refused
 
 module _ (s : Sizes) (leaf : ℕ) (tree path : List ℕ) where
-  fits-checked : Fits s leaf tree path → treeChecked s leaf tree path ≡ Done
+  pub fits-checked : Fits s leaf tree path → treeChecked s leaf tree path ≡ Done
   unfolding treeChecked
   fits-checked f =
       rw (

@@ -1,18 +1,21 @@
 -- Demand 2 holds of our store with fetch and put on the other side. Assumes nothing but what is asked of digest and cipher.
 use Prim.Native.Nat.{ℕ, _<_}
 use mathlib.Core.Path.{_≡_, refl, sym, ap, subst, _∙_}
-use mathlib.Core.List.{List, [], _∷_}
+use mathlib.Core.Option.{some}
+use mathlib.Core.List.{List, [], _∷_, _++_}
 use lib.ListN.{length}
 use Rattle.sizes.specs.declared.Sizes.{Sizes}
 use Rattle.sizes.specs.declared.Outcome.{Outcome}
 use Rattle.sizes.specs.declared.Outcome.the-variants.{Done, Refused}
 use Rattle.sizes.specs.Refusals.{keptOr}
 use Rattle.sizes.specs.Sizes.{InRange, leaves, pathLen, treeLen}
-use Rattle.desk.specs.Readers.{sizesOf, statusOf}
+use Rattle.bags.specs.Bags.{those}
+use Rattle.slots.specs.Slots.{Block}
+use Rattle.desk.specs.Readers.{sizesOf, statusOf, isWritten, rootOf, keyOf, stashOf}
 use Rattle.desk.specs.Status.{openStatus}
 use Rattle.desk.proofs.Known.{known}
 use Rattle.items.specs.Items.{Means, Sound}
-use Rattle.opening.specs.Opening.{viewOf}
+use Rattle.opening.specs.Opening.{viewOf, isId}
 use Rattle.tree.specs.Tree.{putOf}
 use Rattle.asks.specs.declared.Asked.{Asked}
 use Rattle.asks.specs.declared.Asked.the-variants as asked
@@ -21,15 +24,17 @@ use Rattle.store.specs.declared.Finished.the-variants as finished
 use Rattle.store.specs.Steps.{newPath}
 use Rattle.store.specs.Finish.{finishOf, finishChecked}
 use Rattle.keeping.specs.Server.{Agrees, wrote}
+use Rattle.keeping.proofs.Genuine.{asks-of}
+use Rattle.keeping.proofs.Tied.{Tied, standing-tied}
 use Rattle.promises.specs.Stores.{ours, Start, formatFor, Request}
 use Rattle.promises.specs.Steps.{State, begin, askFor, afterAsk, afterFinish}
-use Rattle.promises.specs.Trees.{TreeState, Turn, asking, serving, fetchFor, putIf, served, turn, turns, TreeReached, fetchedBy, DemandTwoTree}
-use Rattle.promises.proofs.One.{finished-done}
-use Rattle.promises.proofs.Three.{accept-record, accept-never, accept-done}
+use Rattle.promises.specs.Trees.{TreeState, Turn, asking, serving, fetchFor, putIf, served, turn, turns, TreeReached, fetchedBy, DemandTwoTree, inTree, blocksOfTree}
+use Rattle.promises.specs.DemandTwo.{blocksOfStore}
+use Rattle.promises.proofs.Answers.{accept-record, accept-never, accept-done, finished-done}
 use Rattle.promises.proofs.Past.{Through, done-through}
 use Rattle.promises.proofs.Stands.{Stands, none-some, begin-stands}
 use Rattle.promises.proofs.AskStep.{ask-stands}
-use Rattle.promises.proofs.FinishStep.{asks-of, path-size, through-of, finish-stands}
+use Rattle.promises.proofs.FinishStep.{path-size, through-of, finish-stands}
 use Rattle.promises.proofs.Kept.{kept}
 use Rattle.promises.proofs.Two.{returned-agrees}
 use Rattle.promises.proofs.TreeHolds.{Holds, fetch-returns, fetch-length, put-holds}
@@ -43,10 +48,10 @@ module _ (m : Means) (o : Sound m) (b : Start) (byte : b .room < 256) where
     abbrev st : State
     st = ts .state
 
-    range : InRange (b .sizes)
+    pub range : InRange (b .sizes)
     range = subst (λ (s : Sizes). InRange s) (v .stands .sizes) (known (st .desk) (v .stands .good) .head .sizes)
 
-    leaf-low : statusOf (st .desk) ≡ openStatus → st .leaf-asked < leaves (b .sizes)
+    pub leaf-low : statusOf (st .desk) ≡ openStatus → st .leaf-asked < leaves (b .sizes)
     leaf-low s =
         subst (λ (z : Sizes). st .leaf-asked < leaves z) (v .stands .sizes)
         (subst (λ (l : ℕ). l < leaves (sizesOf (st .desk))) (sym (v .stands .opens s .leaf)) (asks-of (st .desk) (v .stands .good) s .low))
@@ -123,9 +128,30 @@ module _ (m : Means) (o : Sound m) (b : Start) (byte : b .room < 256) where
       subst (λ (x : TreeState). Both x) (r .here)
       (turns-both (r .taken) (record { state = begin b (r .lent); tree = r .tree }) (begin-both (r .lent) (r .formats) (r .tree) (r .size)))
 
+-- the blocks in the tree's bytes are those in the book
+tree-blocks : (m : Means) (o : Sound m) (b : Start) (byte : b .room < 256) (ts : TreeState) → Both m o b byte ts → blocksOfTree m b ts ≡ blocksOfStore m b (ts .state)
+tree-blocks m o b byte ts v =
+    let st = ts .state in
+    let w = isWritten (st .desk) in
+    let root = rootOf (st .desk) in
+    let t : Tied m (b .sizes) (b .key) (st .server) (b .sizes .height) 0 0 w root =
+    subst (λ (k : List ℕ). Tied m (b .sizes) k (st .server) (b .sizes .height) 0 0 w root) (v .stands .key)
+    (subst (λ (s : Sizes). Tied m s (keyOf (st .desk)) (st .server) (s .height) 0 0 w root) (v .stands .sizes) (v .stands .inv .tied)) in
+    ap (λ (bs : List Block). bs ++ stashOf (st .desk))
+    (standing-tied m (b .sizes) (b .key) (st .server) (inTree (b .sizes) (ts .tree)) (λ k j item e. ap (λ (x : List ℕ). some x) (v .holds .stands k j item e))
+    (b .sizes .height) 0 0 w root t)
+
 pub demand-two-tree : (m : Means) → Sound m → DemandTwoTree m (ours m)
 demand-two-tree m o b byte ts r =
     let v = reached-both m o b byte ts r in
-    kept m o b byte (ts .state) (v .stands) (fetchedBy b ts) (λ s path h.
+    let e = tree-blocks m o b byte ts v in
+    let k = kept m o b byte (ts .state) (v .stands) (fetchedBy b ts) (λ s path h.
     let l = fetch-length (b .sizes) (ts .state .leaf-asked) (ts .state .server) (ts .tree) (range m o b byte ts v) (leaf-low m o b byte ts v s) (v .holds) (h .0) (h .1) in
-    subst (λ (x : List ℕ). Agrees (viewOf (ts .state .desk)) (ts .state .server) x) (sym (h .2)) (fetched-agrees m o b byte ts v s (h .0) l))
+    subst (λ (x : List ℕ). Agrees (viewOf (ts .state .desk)) (ts .state .server) x) (sym (h .2)) (fetched-agrees m o b byte ts v s (h .0) l)) in
+    record {
+      kept = k;
+      size = v .holds .size;
+      items = v .holds .stands;
+      one-place = λ id g l. ap (those (isId id)) e ∙ k .one-place id g l;
+      count = ap length e ∙ k .count;
+    }

@@ -10,12 +10,13 @@ use Rattle.items.specs.Items.{Means, Sound}
 use Rattle.opening.specs.Opening.{viewOf}
 use Rattle.keeping.specs.Server.{Returns, Agrees}
 use Rattle.keeping.proofs.Tied.{returns-agrees}
+use Rattle.keeping.proofs.Genuine.{asks-of}
 use Rattle.promises.specs.Stores.{ours, Start}
 use Rattle.promises.specs.Steps.{State, begin, Event, asks, finishes, after, run, Hands, returned, agreeing, AllFair, Reached}
 use Rattle.promises.specs.DemandTwo.{DemandTwo, DemandTwoReachable}
 use Rattle.promises.proofs.Stands.{Stands, begin-stands}
 use Rattle.promises.proofs.AskStep.{ask-stands}
-use Rattle.promises.proofs.FinishStep.{asks-of, through-of, finish-stands}
+use Rattle.promises.proofs.FinishStep.{through-of, finish-stands}
 use Rattle.promises.proofs.Kept.{kept}
 
 module _ (m : Means) (o : Sound m) (b : Start) (byte : b .room < 256) where

@@ -4,36 +4,43 @@ use Prim.Native.Nat.{ℕ, zero, suc, _+_, _<_}
 use mathlib.Core.Path.{_≡_, refl, sym, ap, subst, _∙_}
 use mathlib.Core.Bool.{Bool, false, cond}
 use mathlib.Core.Option.{none, some}
-use mathlib.Core.List.{List, [], _∷_}
+use mathlib.Core.List.{List, [], _∷_, _++_}
 use native.Mathlib.Nat.{zero-mul}
 use native.Mathlib.Omega.{arith}
-use lib.ListN.{getD, set}
+use lib.ListN.{getD, drop}
 use lib.Dec.{eqb}
 use Rattle.words.specs.Bytes.{zeros}
-use Rattle.words.specs.Numbers.{number}
+use Rattle.words.specs.Numbers.{number, bytesOf}
 use Rattle.words.proofs.Splice.{length-zeros, getD-part}
 use Rattle.sizes.specs.declared.Sizes.{Sizes}
 use Rattle.sizes.specs.declared.Outcome.{Outcome}
 use Rattle.sizes.specs.declared.Outcome.the-variants.{Done}
 use Rattle.sizes.specs.Refusals.{keptOr}
 use Rattle.sizes.specs.Sizes.{sized, recordLen, keyLen, pathLen, deskLen, innerLen, itemLen, itemAt, itemOf}
+use Rattle.slots.specs.Slots.{Block}
 use Rattle.desk.specs.declared.Kind.the-variants.{Write}
 use Rattle.desk.specs.Readers.{sizesOf, writtenOf}
-use Rattle.items.specs.Items.{Means, Sound, counterOf}
+use Rattle.items.specs.declared.View.{View}
+use Rattle.items.specs.Items.{Means, Sound, counterOf, sealed}
 use Rattle.items.specs.Way.{reachable}
 use Rattle.items.proofs.Fields.{item-long}
 use Rattle.opening.specs.Opening.{viewOf}
+use Rattle.draws.specs.Draws.{rearrange, rearranged}
 use Rattle.asks.specs.declared.Asked.{Asked}
 use Rattle.asks.specs.declared.Asked.the-variants as asked
-use Rattle.store.specs.Steps.{newPath}
+use Rattle.asks.specs.Ask.{askOf}
+use Rattle.store.specs.declared.Finished.{Finished}
+use Rattle.store.specs.declared.Finished.the-variants as finished
+use Rattle.store.specs.Steps.{placed}
 use Rattle.store.specs.Finish.{FinishResult, finishChecked}
-use Rattle.promises.specs.Stores.{Store, ours, Start, Request}
+use Rattle.promises.specs.Stores.{Store, ours, Start, formatFor, Request}
 use Rattle.promises.specs.Steps.{State, begin, asks, afterAsk, after, returned, Reached}
 use Rattle.promises.specs.DemandTwo.{Kept, DemandTwo}
+use Rattle.promises.specs.DemandThree.{Around, finishThen, shownIf, goOn, shows, DemandThree}
 use Rattle.promises.specs.Exists.{Proper, InBounds}
-use Rattle.promises.specs.Wrong.{refusing, denying, idle, inventing, leafZero, zeroing}
-use Rattle.promises.proofs.One.{finished-done}
-use Rattle.promises.proofs.Three.{accept-never}
+use Rattle.promises.specs.Wrong.{refusing, denying, idle, invented, inventedFrom, inventedPath, inventing, leafZero, zeroing}
+use Rattle.promises.proofs.Answers.{accept-never, finished-done}
+use Rattle.promises.proofs.Three.{demand-three}
 use Rattle.promises.proofs.Exists.{proper-formats, start-ready, first-leaf, first, first-is, first-unwritten, anything, first-ready, first-not-worn, first-few}
 use Rattle.promises.proofs.More.{reached-begin, reached-more}
 
@@ -129,21 +136,24 @@ module _ (m : Means) (o : Sound m) where
 
   -- ---- a counter whose lowest byte is 7 is not 1
 
-  not-one : (xs : List ℕ) (s : Sizes) → counterOf (itemOf s (set xs 0 7) 0) ≡ 1 → ⊥
+  not-one : (xs : List ℕ) (s : Sizes) → getD xs 0 0 ≡ invented → counterOf (itemOf s xs 0) ≡ 1 → ⊥
   unfolding number
-  not-one xs s e =
+  not-one xs s f e =
       let z : itemAt s 0 + 0 ≡ 0 = omega (arith, zero-mul (innerLen s)) in
-      let b : getD (itemOf s (set xs 0 7) 0) 0 0 ≡ getD (set xs 0 7) 0 0 =
-      getD-part (set xs 0 7) (itemAt s 0) (itemLen s 0) 0 (omega (arith, item-long s xs 0)) ∙ ap (λ (j : ℕ). getD (set xs 0 7) j 0) z in
-      by xs (omega (arith, b, e))
-    where
-      by : (xs : List ℕ) → getD (set xs 0 7) 0 0 ≡ 1 → ⊥
-      by [] h = omega arith
-      by (x ∷ xs) h = omega arith
+      let b : getD (itemOf s xs 0) 0 0 ≡ getD xs 0 0 = getD-part xs (itemAt s 0) (itemLen s 0) 0 (omega (arith, item-long s xs 0)) ∙ ap (λ (j : ℕ). getD xs j 0) z in
+      omega (arith, b, e)
+
+  first-byte : (v : View) (path : List ℕ) (placed : List (List Block)) (h : ℕ)
+      → getD (inventedFrom m v path placed h .0 ++ inventedFrom m v path placed h .1) 0 0 ≡ invented
+  unfolding inventedFrom sealed bytesOf
+  first-byte v path placed zero = refl
+  first-byte v path placed (suc h) = refl
 
   pub inventing-out : DemandTwo m (inventing m) → ⊥
   inventing-out d =
       let desk = asked-first .desk in
+      let v = viewOf desk in
+      let bs = placed m desk somePath in
       let k = d small (omega arith) asked-first (reached-first (inventing m .finish)) in
       let l = anything m o small lent small-proper writing writing-fits somePath someBuffer (length-zeros _) (length-zeros _) in
       let r = first-ready m o small lent small-proper writing writing-fits somePath someBuffer (length-zeros _) (length-zeros _) in
@@ -151,10 +161,41 @@ module _ (m : Means) (o : Sound m) where
       let a = k .otherwise somePath someBuffer l r n (first-few m o small lent small-proper writing writing-fits somePath someBuffer (length-zeros _) (length-zeros _)) in
       let c : finishChecked m desk somePath someBuffer ≡ Done = finished-done (finishChecked m desk somePath someBuffer) _ a in
       let w = k .writes somePath someBuffer l a 0 (omega arith) .counter in
-      let f : counterOf (itemOf (sizesOf desk) (set (newPath m desk somePath) 0 7) 0) ≡ 1 =
-      sym (ap (λ (x : Outcome). counterOf (itemOf (sizesOf desk) (keptOr x somePath (set (newPath m desk somePath) 0 7)) 0)) c) ∙ w
+      let f : counterOf (itemOf (sizesOf desk) (inventedPath m v somePath bs) 0) ≡ 1 =
+      sym (ap (λ (x : Outcome). counterOf (itemOf (sizesOf desk) (keptOr x somePath (inventedPath m v somePath bs)) 0)) c) ∙ w
       ∙ ap (λ (x : Bool). cond x (counterOf (itemOf (sizesOf desk) somePath 0) + 1) 1) unreached in
-      not-one (newPath m desk somePath) (sizesOf desk) f
+      not-one (inventedPath m v somePath bs) (sizesOf desk) (first-byte v somePath bs (v .sizes .height)) f
     where
       unreached : reachable (viewOf (asked-first .desk)) somePath 0 ≡ false
       unreached = root-off (asked-first .desk) somePath (first-unwritten m o small lent small-proper writing writing-fits)
+
+-- ---- a store that shows 0 always shows the same whatever is asked for
+
+module _ (m : Means) where
+  shows-zero : (desk us xs : List ℕ) (es : List Around) (j : ℕ) → getD (shows (zeroing m) desk us xs es) j 0 ≡ 0
+  unfolding shows
+  shows-zero desk [] xs es j = refl
+  shows-zero desk (u ∷ us) [] es j = refl
+  shows-zero desk (u ∷ us) (x ∷ xs) [] j = refl
+  shows-zero desk (u ∷ us) (x ∷ xs) (e ∷ es) j =
+      go (askOf desk (e .kind) u x (e .content) .answer) j (finishThen (zeroing m) desk u x e .answer) (shows (zeroing m) (finishThen (zeroing m) desk u x e .desk) us xs es)
+      (λ i. shows-zero (finishThen (zeroing m) desk u x e .desk) us xs es i)
+    where
+      rest : (a : Finished) (more : List ℕ) → ((i : ℕ) → getD more i 0 ≡ 0) → (i : ℕ) → getD (goOn a more) i 0 ≡ 0
+      rest finished.Record more h i = h i
+      rest finished.Never more h i = h i
+      rest finished.Done more h i = h i
+      rest (finished.Refused q) more h i = refl
+
+      go : (a : Asked) (j : ℕ) (b : Finished) (more : List ℕ) → ((i : ℕ) → getD more i 0 ≡ 0) → getD (shownIf (leafZero a) (λ p. p ∷ goOn b more)) j 0 ≡ 0
+      go (asked.Leaf p) zero b more h = refl
+      go (asked.Leaf p) (suc j) b more h = rest b more h j
+      go (asked.Refused q) j b more h = refl
+
+  pub zeroing-three : Sound m → DemandThree (zeroing m) (zeroing m)
+  zeroing-three o n us vs e g h = (
+    demand-three m o m o n us vs e g h .0,
+    λ draws l r r′ j k k′.
+        shows-zero (formatFor (r .start) (r .lent) .desk) us (drop n draws) (r .around) j
+        ∙ sym (shows-zero (formatFor (r′ .start) (r′ .lent) .desk) vs (drop n (rearranged draws (rearrange n us vs))) (r′ .around) j),
+  )

@@ -13,13 +13,14 @@ use Rattle.sizes.specs.declared.Outcome.the-variants.{Refused}
 use Rattle.sizes.specs.Refusals.{numberOf}
 use Rattle.desk.specs.declared.Kind.{Kind}
 use Rattle.desk.specs.Layout.{statusAt}
+use Rattle.desk.specs.Good.{goodDesk}
 use Rattle.items.specs.Items.{Means}
 use Rattle.tree.specs.Tree.{treeRows, fetchOf, putOf}
 use Rattle.asks.specs.declared.Asked.the-variants as asked
-use Rattle.asks.specs.Ask.{askRows}
-use Rattle.formats.specs.Format.{formatRows}
+use Rattle.asks.specs.Ask.{askRows, askedValue}
+use Rattle.formats.specs.Format.{formatRows, formatValue}
 use Rattle.store.specs.declared.Finished.the-variants as finished
-use Rattle.store.specs.Finish.{finishRows}
+use Rattle.store.specs.Finish.{finishRows, finishedValue}
 use Rattle.promises.specs.Stores.{Store, Start, formatFor}
 
 -- ---- what a refusal changes
@@ -36,10 +37,13 @@ pub record First (rows : List (Bool × Refusal)) (q : Refusal) : Type 0 where
   pub applies : getD rows row (false, BadDesk) ≡ (true, q)
   pub none-before : (i : ℕ) → i < row → getD rows i (false, BadDesk) .0 ≡ false
 
--- an answer by rows: refused with q exactly if q is the first that applies; not refused exactly if none applies
-pub record ByRows {A : Type 0} (rows : List (Bool × Refusal)) (answer : A) (refused : Refusal → A) : Type 0 where
+-- an answer by rows: refused with q exactly if q is the first that applies; not refused exactly if none applies. `number` gives an answer's number in the
+-- paper, 0 where nothing is refused
+pub record ByRows {A : Type 0} (rows : List (Bool × Refusal)) (answer : A) (refused : Refusal → A) (number : A → ℕ) : Type 0 where
   pub first : (q : Refusal) → (answer ≡ refused q) ↔ First rows q
   pub none : ((q : Refusal) → answer ≡ refused q → ⊥) ↔ ((i : ℕ) → i < length rows → getD rows i (false, BadDesk) .0 ≡ false)
+  pub numbered : (q : Refusal) → First rows q → number answer ≡ numberOf q
+  pub no-number : ((i : ℕ) → i < length rows → getD rows i (false, BadDesk) .0 ≡ false) → number answer ≡ 0
 
 -- ---- one result: two that an entry's statement allows are equal, answer and every buffer. Each contract is one equation with the whole result, so this is
 -- seen at once; what it says is that no statement leaves a byte open
@@ -52,26 +56,30 @@ One {R} determined = (r r′ : R) → r ≡ determined → r′ ≡ determined �
 pub record DemandOne (m : Means) (store : Store) : Type 0 where
   -- format
   pub format-by-rows : (b : Start) (lent : List ℕ)
-      → ByRows (formatRows lent (b .sizes .height) (b .sizes .slots) (b .room) (b .ids) (b .key) (b .starts)) (formatFor b lent .answer) Refused
+      → ByRows (formatRows lent (b .sizes .height) (b .sizes .slots) (b .room) (b .ids) (b .key) (b .starts)) (formatFor b lent .answer) Refused formatValue
   pub format-refuses : (b : Start) (lent : List ℕ) (q : Refusal) → formatFor b lent .answer ≡ Refused q → formatFor b lent .desk ≡ lent
   pub format-once : (b : Start) (lent : List ℕ) → One (formatFor b lent)
   -- ask
   pub ask-by-rows : (desk : List ℕ) (kind : Kind) (id leaf : ℕ) (rec : List ℕ)
-      → ByRows (askRows desk kind id leaf rec) (store .ask desk kind id leaf rec .answer) asked.Refused
+      → ByRows (askRows desk kind id leaf rec) (store .ask desk kind id leaf rec .answer) asked.Refused (λ a. askedValue a .0)
   pub ask-refuses : (desk : List ℕ) (kind : Kind) (id leaf : ℕ) (rec : List ℕ) (q : Refusal)
       → store .ask desk kind id leaf rec .answer ≡ asked.Refused q → store .ask desk kind id leaf rec .desk ≡ desk
   pub ask-once : (desk : List ℕ) (kind : Kind) (id leaf : ℕ) (rec : List ℕ) → One (store .ask desk kind id leaf rec)
   -- finish
-  pub finish-by-rows : (desk path buffer : List ℕ) → ByRows (finishRows m desk path buffer) (store .finish desk path buffer .answer) finished.Refused
+  pub finish-by-rows : (desk path buffer : List ℕ) → ByRows (finishRows m desk path buffer) (store .finish desk path buffer .answer) finished.Refused (λ a. finishedValue a .0)
   pub finish-refuses : (desk path buffer : List ℕ) (q : Refusal) → store .finish desk path buffer .answer ≡ finished.Refused q
       → OnlyStatus q desk (store .finish desk path buffer .desk) × (store .finish desk path buffer .path ≡ path) × (store .finish desk path buffer .buffer ≡ buffer)
   pub finish-once : (desk path buffer : List ℕ) → One (store .finish desk path buffer)
   -- fetch and put
-  pub fetch-by-rows : (s : Sizes) (leaf : ℕ) (tree path : List ℕ) → ByRows (treeRows s leaf tree path) (fetchOf s leaf tree path .answer) Refused
+  pub fetch-by-rows : (s : Sizes) (leaf : ℕ) (tree path : List ℕ) → ByRows (treeRows s leaf tree path) (fetchOf s leaf tree path .answer) Refused formatValue
   pub fetch-refuses : (s : Sizes) (leaf : ℕ) (tree path : List ℕ) (q : Refusal) → fetchOf s leaf tree path .answer ≡ Refused q
       → (fetchOf s leaf tree path .tree ≡ tree) × (fetchOf s leaf tree path .path ≡ path)
   pub fetch-once : (s : Sizes) (leaf : ℕ) (tree path : List ℕ) → One (fetchOf s leaf tree path)
-  pub put-by-rows : (s : Sizes) (leaf : ℕ) (tree path : List ℕ) → ByRows (treeRows s leaf tree path) (putOf s leaf tree path .answer) Refused
+  pub put-by-rows : (s : Sizes) (leaf : ℕ) (tree path : List ℕ) → ByRows (treeRows s leaf tree path) (putOf s leaf tree path .answer) Refused formatValue
   pub put-refuses : (s : Sizes) (leaf : ℕ) (tree path : List ℕ) (q : Refusal) → putOf s leaf tree path .answer ≡ Refused q
       → (putOf s leaf tree path .tree ≡ tree) × (putOf s leaf tree path .path ≡ path)
   pub put-once : (s : Sizes) (leaf : ℕ) (tree path : List ℕ) → One (putOf s leaf tree path)
+  -- whether a desk is good, the digest and the cipher
+  pub good-once : (desk : List ℕ) → One (goodDesk desk)
+  pub digest-once : (text : List ℕ) → One (m .digest text)
+  pub cipher-once : (key nonce text : List ℕ) → One (m .cipher key nonce text)

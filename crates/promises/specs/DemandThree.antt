@@ -7,7 +7,7 @@ use mathlib.Core.List.{List, [], _∷_, List·Permᴰ}
 use lib.ListN.{length, getD, take, drop}
 use Rattle.sizes.specs.declared.Outcome.the-variants.{Done}
 use Rattle.desk.specs.declared.Kind.{Kind}
-use Rattle.draws.specs.Draws.{AllGood, lastDrawn, from, indices, rearrange, rearranged}
+use Rattle.draws.specs.Draws.{AllGood, leavesShown, lastDrawn, from, indices, unshown, rearrange, rearranged}
 use Rattle.asks.specs.declared.Asked.{Asked}
 use Rattle.asks.specs.declared.Asked.the-variants as asked
 use Rattle.store.specs.declared.Finished.{Finished}
@@ -50,11 +50,12 @@ shows store desk (u ∷ us) (x ∷ xs) (e ∷ es) =
     shownIf (store .ask desk (e .kind) u x (e .content) .answer)
     (λ p. p ∷ goOn (finishThen store desk u x e .answer) (shows store (finishThen store desk u x e .desk) us xs es))
 
--- a run from format with these draws: the first n are the starting leaves, the others go to the requests. Key, sizes, stash room, the lent desk and
--- the surroundings are its own
+-- a run from format with these draws: the first n are the starting leaves, the others go to the requests. Key, sizes, stash room (a byte), the lent desk
+-- and the surroundings are its own
 pub record Run (n : ℕ) (draws : List ℕ) : Type 0 where
   pub start : Start
   pub ids : start .ids ≡ n
+  pub byte : start .room < 256
   pub starts : start .starts ≡ take n draws
   pub lent : List ℕ
   pub formats : formatFor start lent .answer ≡ Done
@@ -71,6 +72,16 @@ DemandThree store store′ = (n : ℕ) (us vs : List ℕ) → length us ≡ leng
     × ((draws : List ℕ) → length draws ≡ n + length us → (r : Run n draws) (r′ : Run n (rearranged draws (rearrange n us vs)))
     → (j : ℕ) → j < length (leavesOf store n us draws r) → j < length (leavesOf store′ n vs (rearranged draws (rearrange n us vs)) r′)
     → getD (leavesOf store n us draws r) j 0 ≡ getD (leavesOf store′ n vs (rearranged draws (rearrange n us vs)) r′) j 0)
+
+-- the rearrangement takes the draws shown to the draws shown, in their order, and the others to the others, which keep their order too
+abbrev pub InOrder : Type 0
+InOrder = (n : ℕ) (us vs : List ℕ) → length us ≡ length vs → AllGood n us → AllGood n vs
+    → (rearranged (rearrange n us vs) (indices n vs) ≡ indices n us) × (rearranged (rearrange n us vs) (unshown n vs) ≡ unshown n us)
+
+-- each leaf of a run is the one that the ids and the draws alone give: `leavesShown` is what the worked figures compute
+abbrev pub ShownByDraws : Store → Type 0
+ShownByDraws store = (n : ℕ) (us draws : List ℕ) → AllGood n us → (r : Run n draws)
+    → (j : ℕ) → j < length (leavesOf store n us draws r) → getD (leavesOf store n us draws r) j 0 ≡ getD (leavesShown n us draws) j 0
 
 -- no draw is shown twice: leaf j of a run is the draw whose number the ids alone decide, and these numbers differ
 abbrev pub ShownOnce : Store → Type 0

@@ -9,12 +9,12 @@ use lib.ListN.{length, getD}
 use Rattle.sizes.specs.declared.Refusal.the-variants.{Forged, Worn, Full}
 use Rattle.sizes.specs.Sizes.{recordLen, leaves, itemOf, pathLen, bucketAt}
 use Rattle.bags.specs.Bags.{those}
-use Rattle.slots.specs.Slots.{Block}
-use Rattle.desk.specs.Layout.{roomOf}
+use Rattle.slots.specs.Slots.{Block, slotsWith, Rising}
+use Rattle.desk.specs.Layout.{idsOf, roomOf}
 use Rattle.desk.specs.Readers.{sizesOf, heightOf, keyOf, rootOf, isWritten, statusOf, isMarked, leafAsked, kindAsked, idAsked, newLeaf, recordAsked, stashOf}
 use Rattle.desk.specs.Status.{readyStatus, openStatus}
 use Rattle.desk.specs.Good.{goodDesk}
-use Rattle.items.specs.Items.{Means, counterOf, flagOf, digestOf, itemDigest, blocksIn}
+use Rattle.items.specs.Items.{Means, counterOf, flagOf, digestOf, itemDigest, blocksIn, slotsOpened}
 use Rattle.items.specs.Way.{reachable}
 use Rattle.opening.specs.Opening.{viewOf, isId, lastCounter, Reach, Genuine}
 use Rattle.writing.specs.Writing.{newFlag, newDigest}
@@ -71,7 +71,10 @@ pub record Writes (m : Means) (desk path new : List ℕ) (k : ℕ) : Type 0 wher
   -- the counter is the old one plus 1 if the item was reachable, else 1
   pub counter : counterOf (itemOf (sizesOf desk) new k)
       ≡ cond (reachable (viewOf desk) path k) (counterOf (itemOf (sizesOf desk) path k) + 1) 1
-  -- its slots hold, under the key, the blocks placed at this level
+  -- its slots hold, under the key, the blocks placed at this level, by rising id, and then zeros
+  pub slots : slotsOpened m (sizesOf desk) (keyOf desk) (bucketAt (sizesOf desk) (leafAsked desk) k) (itemOf (sizesOf desk) new k)
+      ≡ slotsWith (sizesOf desk .slots) (getD (placed m desk path) (heightOf desk - k) [])
+  pub rising : Rising 0 (getD (placed m desk path) (heightOf desk - k) [])
   pub blocks : blocksIn m (sizesOf desk) (keyOf desk) (bucketAt (sizesOf desk) (leafAsked desk) k) (itemOf (sizesOf desk) new k)
       ≡ getD (placed m desk path) (heightOf desk - k) []
   -- flags and digests of the children; the child on the path has its new digest
@@ -82,6 +85,11 @@ pub record Writes (m : Means) (desk path new : List ℕ) (k : ℕ) : Type 0 wher
 
 pub record Kept (m : Means) (store : Store) (b : Start) (hands : List ℕ → Type 0) (st : State) : Type 0 where
   pub good : goodDesk (st .desk) ≡ true
+  -- its sizes, key, N and S are those that it was formatted with
+  pub sizes : sizesOf (st .desk) ≡ b .sizes
+  pub key : keyOf (st .desk) ≡ b .key
+  pub ids : idsOf (st .desk) ≡ b .ids
+  pub room : roomOf (st .desk) ≡ b .room
   -- an open desk has a request, and body (c) holds it; a ready desk has none
   pub opens : statusOf (st .desk) ≡ openStatus → (r : Request) × (st .open-request ≡ some r) × Holds (st .desk) r
   pub is-ready : statusOf (st .desk) ≡ readyStatus → st .open-request ≡ none

@@ -2,9 +2,11 @@
 -- leaf, and so is its first finish. Assumes nothing.
 use Prim.Native.Nat.{ℕ, _-_, _<_, _≤_}
 use mathlib.Core.Path.{_≡_}
+use mathlib.Core.Logic.{_≢_}
 use mathlib.Core.Bool.{true}
 use mathlib.Core.List.{List, _∷_}
 use lib.ListN.{length, getD, drop}
+use Rattle.sizes.specs.declared.Refusal.the-variants.{Full}
 use Rattle.sizes.specs.declared.Outcome.the-variants.{Done}
 use Rattle.sizes.specs.Sizes.{InRange, mostIds, leaves, recordLen, keyLen, pathLen, deskLen}
 use Rattle.desk.specs.Readers.{statusOf}
@@ -12,8 +14,9 @@ use Rattle.desk.specs.Status.{readyStatus}
 use Rattle.desk.specs.Good.{goodDesk}
 use Rattle.asks.specs.declared.Asked.the-variants as asked
 use Rattle.asks.specs.Ask.{recordFits}
+use Rattle.store.specs.declared.Finished.the-variants as finished
 use Rattle.promises.specs.Stores.{Store, Start, formatFor, Request, Accepted}
-use Rattle.promises.specs.Steps.{begin, asks, after, askFor, finishFor}
+use Rattle.promises.specs.Steps.{begin, asks, after, askFor, finishFor, State, returned, Reached}
 use Rattle.promises.specs.DemandThree.{Around, Run, leavesOf}
 
 -- a start that is in range, with a desk to write to
@@ -43,6 +46,9 @@ pub record Exists (store : Store) : Type 0 where
   pub first-finish : (b : Start) (lent : List ℕ) → Proper b lent → 1 ≤ b .room → (r : Request) → InBounds b r
       → (path buffer : List ℕ) → length path ≡ pathLen (b .sizes) → length buffer ≡ recordLen
       → Accepted (finishFor store (after store (b .sizes) (begin b lent) (asks r)) path buffer .answer)
+  -- a stash with room for every id is never full: so there are runs of any length, as far as counters go
+  pub never-full : (b : Start) → b .room < 256 → b .ids ≤ b .room → (st : State) → Reached store b (returned b) st → (path buffer : List ℕ)
+      → returned b st path → finishFor store st path buffer .answer ≢ finished.Refused Full
   -- so a run of demand 3 shows a leaf: at its first request, with its first draw, in its first surroundings
   pub first-shown : (n : ℕ) (draws : List ℕ) (run : Run n draws) (u x : ℕ) (us xs : List ℕ) (e : Around) (es : List Around)
       → 0 < u → u ≤ n → drop n draws ≡ x ∷ xs → run .around ≡ e ∷ es → x < leaves (run .start .sizes) → recordFits recordLen (e .kind) (e .content) ≡ true

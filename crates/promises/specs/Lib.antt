@@ -1,8 +1,10 @@
 pub mod Stores
 pub mod Steps
 pub mod DemandOne
+pub mod Finishes
 pub mod DemandTwo
 pub mod Trees
+pub mod Requests
 pub mod DemandThree
 pub mod Exists
 pub mod Wrong

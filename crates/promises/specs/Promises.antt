@@ -2,9 +2,11 @@
 use Rattle.items.specs.Items.{Means}
 use Rattle.promises.specs.Stores.{ours}
 use Rattle.promises.specs.DemandOne.{DemandOne}
+use Rattle.promises.specs.Finishes.{KeepsGood, EachFinish}
 use Rattle.promises.specs.DemandTwo.{Exactly, DemandTwo, DemandTwoReachable}
 use Rattle.promises.specs.Trees.{DemandTwoTree}
-use Rattle.promises.specs.DemandThree.{DemandThree, ShownOnce, ShownLast}
+use Rattle.promises.specs.Requests.{WholeRequests}
+use Rattle.promises.specs.DemandThree.{DemandThree, InOrder, ShownByDraws, ShownOnce, ShownLast}
 use Rattle.promises.specs.Exists.{Exists}
 use Rattle.promises.specs.Wrong.{ShutOut}
 use Rattle.promises.specs.Figures.{Figures}
@@ -12,17 +14,24 @@ use Rattle.promises.specs.Figures.{Figures}
 pub record Promises (m : Means) : Type 0 where
   -- 1: one result on every input, refusals in order, what they change
   pub one : DemandOne m (ours m)
+  -- of each call, whatever path comes back: a good desk stays good; what a finish reads, and what it leaves
+  pub keeps-good : KeepsGood (ours m)
+  pub each-finish : EachFinish m (ours m)
   -- 2: Forged, Worn and Full exactly; a plain table over an honest server, over one that alters only what nobody looks at, and over fetch and put
   pub exactly : Exactly m (ours m)
   pub two : DemandTwo m (ours m)
   pub two-reachable : DemandTwoReachable m (ours m)
   pub two-tree : DemandTwoTree m (ours m)
+  -- one whole request, as one call, is what its steps are
+  pub requests : WholeRequests
   -- 3: what is shown does not depend on what is asked for; no draw is shown twice; the leaf shown is the last one drawn for the id
   pub three : DemandThree (ours m) (ours m)
+  pub in-order : InOrder
+  pub shown-by-draws : ShownByDraws (ours m)
   pub shown-once : ShownOnce (ours m)
   pub shown-last : ShownLast (ours m)
   -- there are runs, and wrong stores are shut out
   pub exists : Exists (ours m)
   pub shut-out : ShutOut m
   -- the worked figures
-  pub figures : Figures
+  pub figures : Figures m (ours m)

@@ -1,25 +1,31 @@
 -- Six wrong stores, to try the demands on: demand 2 shuts out each. Assumes nothing.
-use Prim.Native.Nat.{ℕ}
+use Prim.Native.Nat.{ℕ, zero, suc, _-_}
 use mathlib.Core.Bool.{Bool, true, false}
-use mathlib.Core.List.{List}
-use lib.ListN.{set}
+use mathlib.Core.List.{List, [], _∷_, _++_}
+use lib.ListN.{getD}
 use lib.Dec.{eqb}
 use Rattle.words.specs.Bytes.{zeros}
 use Rattle.sizes.specs.declared.Refusal.the-variants.{BadDesk}
 use Rattle.sizes.specs.Refusals.{keptOr}
 use Rattle.desk.specs.Layout.{cLen, shapeOf}
 use Rattle.desk.specs.Readers.{kindAsked, writtenOf}
-use Rattle.desk.specs.Status.{readyStatus, atStatus}
-use Rattle.desk.specs.Changes.{withRequest}
-use Rattle.items.specs.Items.{Means}
+use Rattle.desk.specs.Status.{readyStatus, atStatus, stoppedOr}
+use Rattle.desk.specs.Changes.{withRequest, withRoot}
+use Rattle.slots.specs.Slots.{Block}
+use Rattle.items.specs.declared.View.{View}
+use Rattle.items.specs.Items.{Means, itemDigest, sealed}
+use Rattle.items.specs.Way.{bucket}
+use Rattle.opening.specs.Opening.{viewOf}
+use Rattle.writing.specs.Writing.{newFlag, newDigest}
 use Rattle.asks.specs.declared.Asked.{Asked}
 use Rattle.asks.specs.declared.Asked.the-variants as asked
 use Rattle.asks.specs.Ask.{result, askOf}
 use Rattle.store.specs.declared.Finished.the-variants as finished
-use Rattle.store.specs.Steps.{answerFor, wasMarked, newPath}
+use Rattle.store.specs.Steps.{answerFor, wasMarked, placed, newDesk}
 use Rattle.store.specs.Finish.{FinishResult, finishOf, finishChecked}
 use Rattle.promises.specs.Stores.{Store}
 use Rattle.promises.specs.DemandTwo.{DemandTwo}
+use Rattle.promises.specs.DemandThree.{DemandThree}
 
 -- refuses always
 abbrev pub refusing : Store
@@ -64,7 +70,34 @@ abbrev pub echoing : Means → Store
 echoing m =
     record { ask = askOf; finish = λ desk path buffer. echoIf (eqb (writtenOf desk) 0) (finishOf m desk path buffer) (echo m desk path buffer) }
 
--- writes an invented counter into the root's item
+-- writes invented counters, and is at one with itself: slots are enciphered under them, digests are taken of what is written, and the root digest is
+-- the new one, so that over an honest server it answers as it should
+abbrev pub invented : ℕ
+invented = 7
+
+module _ (m : Means) (v : View) (path : List ℕ) (placed : List (List Block)) where
+  abbrev pub inventedHead : ℕ → List ℕ
+  inventedHead k = sealed m (v .sizes) (v .key) invented (bucket v k) (getD placed (v .sizes .height - k) [])
+
+  abbrev pub inventedInner : ℕ → List ℕ → List ℕ
+  inventedInner k new =
+      inventedHead k
+      ++ (newFlag m v path placed k 0 ∷ newFlag m v path placed k 1 ∷ (newDigest m v path placed k new 0 ++ newDigest m v path placed k new 1))
+
+  -- the items of the h lowest inner levels and the leaf's: the highest, and those below it
+  unfoldable pub inventedFrom : ℕ → List ℕ × List ℕ
+  inventedFrom zero = (inventedHead (v .sizes .height), [])
+  inventedFrom (suc h) = (
+    inventedInner (v .sizes .height - suc h) (itemDigest m (v .sizes) (suc (v .sizes .height - suc h)) (inventedFrom h .0)),
+    inventedFrom h .0 ++ inventedFrom h .1,
+  )
+
+  abbrev pub inventedPath : List ℕ
+  inventedPath = inventedFrom (v .sizes .height) .0 ++ inventedFrom (v .sizes .height) .1
+
+  abbrev pub inventedRoot : List ℕ
+  inventedRoot = itemDigest m (v .sizes) 0 (inventedFrom (v .sizes .height) .0)
+
 abbrev pub inventing : Means → Store
 inventing m =
     record {
@@ -72,8 +105,8 @@ inventing m =
       finish = λ desk path buffer.
           record {
             answer = finishOf m desk path buffer .answer;
-            desk = finishOf m desk path buffer .desk;
-            path = keptOr (finishChecked m desk path buffer) path (set (newPath m desk path) 0 7);
+            desk = stoppedOr (finishChecked m desk path buffer) desk (withRoot (inventedRoot m (viewOf desk) path (placed m desk path)) (newDesk m desk path));
+            path = keptOr (finishChecked m desk path buffer) path (inventedPath m (viewOf desk) path (placed m desk path));
             buffer = finishOf m desk path buffer .buffer;
           };
     }
@@ -97,3 +130,5 @@ pub record ShutOut (m : Means) : Type 0 where
   pub only-echoes : DemandTwo m (echoing m) → ⊥
   pub invents-counters : DemandTwo m (inventing m) → ⊥
   pub asks-for-zero : DemandTwo m (zeroing m) → ⊥
+  -- it meets demand 3: all that it shows is 0. So demand 3 alone would not do
+  pub zero-is-no-leak : DemandThree (zeroing m) (zeroing m)

@@ -1,10 +1,11 @@
 -- One whole request against a lent tree: ask, fetch, finish, put; what it answers and what the four buffers then hold, on every input. Assumes nothing.
 use Prim.Native.Nat.{ℕ}
 use mathlib.Core.Bool.{Bool, true, false}
-use mathlib.Core.List.{List}
+use mathlib.Core.List.{List, [], _∷_}
 use Rattle.sizes.specs.declared.Sizes.{Sizes}
 use Rattle.sizes.specs.declared.Outcome.{Outcome}
 use Rattle.sizes.specs.declared.Outcome.the-variants.{Done, Refused}
+use Rattle.sizes.specs.Refusals.{numberOf}
 use Rattle.desk.specs.declared.Kind.{Kind}
 use Rattle.desk.specs.Readers.{sizesOf}
 use Rattle.tree.specs.Tree.{fetchOf, putOf}
@@ -14,7 +15,7 @@ use Rattle.asks.specs.Ask.{askOf}
 use Rattle.items.specs.Real.{real}
 use Rattle.store.specs.declared.Finished.{Finished}
 use Rattle.store.specs.declared.Finished.the-variants as finished
-use Rattle.store.specs.Finish.{FinishResult, finishOf}
+use Rattle.store.specs.Finish.{FinishResult, finishOf, finishedValue}
 use Rattle.requests.specs.declared.Answered.{Answered}
 use Rattle.requests.specs.declared.Answered.the-variants as answered
 
@@ -64,3 +65,8 @@ askedFor (asked.Leaf leaf) desk tree path buffer = fetchedFor (sizesOf desk) lea
 abbrev pub requestOf : List ℕ → List ℕ → List ℕ → List ℕ → Kind → ℕ → ℕ → RequestResult
 requestOf desk tree path buffer kind id leaf =
     askedFor (askOf desk kind id leaf buffer .answer) (askOf desk kind id leaf buffer .desk) tree path buffer
+
+-- each answer's number in the paper, 0 where nothing is refused, and its values: the leaf, if one was asked for
+abbrev pub answeredValue : Answered → ℕ × List ℕ
+answeredValue (answered.Refused r) = (numberOf r, [])
+answeredValue (answered.Asked leaf f) = (finishedValue f .0, leaf ∷ [])

@@ -9,7 +9,7 @@ use Rattle.sizes.specs.declared.Refusal.the-variants.{BadDesk, Stopped, NotOpen
 use Rattle.sizes.specs.declared.Outcome.{Outcome}
 use Rattle.sizes.specs.declared.Outcome.the-variants.{Done, Refused}
 use Rattle.sizes.specs.Sizes.{recordLen, pathLen}
-use Rattle.sizes.specs.Refusals.{firstOf, keptOr}
+use Rattle.sizes.specs.Refusals.{numberOf, firstOf, keptOr}
 use Rattle.desk.specs.Layout.{roomOf}
 use Rattle.desk.specs.Readers.{statusOf, sizesOf, kindAsked}
 use Rattle.desk.specs.Status.{readyStatus, firstStopped, stoppedOr}
@@ -71,3 +71,10 @@ finishBy c m desk path buffer =
 
 abbrev pub finishOf : Means → List ℕ → List ℕ → List ℕ → FinishResult
 finishOf m desk path buffer = finishBy (finishChecked m desk path buffer) m desk path buffer
+
+-- each answer's number in the paper, 0 where nothing is refused, and its values: there are none, since a record is in the buffer
+abbrev pub finishedValue : Finished → ℕ × List ℕ
+finishedValue finished.Record = (0, [])
+finishedValue finished.Never = (0, [])
+finishedValue finished.Done = (0, [])
+finishedValue (finished.Refused r) = (numberOf r, [])

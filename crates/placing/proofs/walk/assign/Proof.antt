@@ -9,7 +9,7 @@ use Rattle.sizes.specs.Sizes.{slotLen}
 use Rattle.placing.specs.Walk.{bump, given, usedIn, mostHeights}
 use Rattle.placing.specs.Bank.{leafAt, blocksAt}
 use Rattle.placing.proofs.Walked.{bump-le}
-use Rattle.placing.proofs.Ordered.{more-stored, all-stored}
+use Rattle.placing.proofs.Turns.{more-stored, all-stored}
 use Rattle.placing.proofs.Given.{given-turn, used-turn, given-end, used-end, none-used}
 use borrow.Author.Needs.{needs}
 use Rattle.placing.proofs.walk.assign.Statement.{statement}
