@@ -1,5 +1,8 @@
 // shelf: standard input is a script, standard output its listing. The work is in run.rt and in the crate `script`; here bytes are moved.
 // A run ends where the script does, at a line that can't be read, at a refused format, or where the output can't be written.
+mod head;
+mod lengths;
+mod request;
 mod run;
 
 use libc::STDIN_FILENO;
@@ -202,9 +205,9 @@ fn run_script(
 
 fn main() {
     let mut window = io::large_buffer();
-    let mut desk = [0u8; run::MOST_DESK];
-    let mut tree = [0u8; run::MOST_TREE];
-    let mut path = [0u8; run::MOST_PATH];
+    let mut desk = [0u8; lengths::MOST_DESK];
+    let mut tree = [0u8; lengths::MOST_TREE];
+    let mut path = [0u8; lengths::MOST_PATH];
     let mut record = [0u8; Sizes::RECORD];
     let mut leaves = [0u16; Sizes::MOST_IDS];
     let mut out = [0u8; listing::MOST_ROW];

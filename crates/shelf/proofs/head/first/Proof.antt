@@ -1,11 +1,11 @@
--- `shelf::run::first` meets its contract: what the line was read as decides. Assumes nothing.
+-- `shelf::head::first` meets its contract: what the line was read as decides. Assumes nothing.
 use mathlib.Core.Path.{sym, _∙_}
 use denote.Ref.{now}
 use native.Mathlib.Omega.{arith}
 use Rattle.shelf.proofs.Steps.{silent}
 use borrow.Author.Needs.{needs}
-use Rattle.shelf.proofs.run.first.Statement.{statement}
-use Rattle.shelf.proofs.run.first.Tie as tie
+use Rattle.shelf.proofs.head.first.Statement.{statement}
+use Rattle.shelf.proofs.head.first.Tie as tie
 
 store-line-requires : tie.Need-store-line-requires
 store-line-requires c κs = search needs

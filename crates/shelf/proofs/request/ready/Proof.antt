@@ -1,4 +1,4 @@
--- `shelf::run::ready` meets its contract: what the line was read as decides, and the request's answer is listed. Assumes nothing.
+-- `shelf::request::ready` meets its contract: what the line was read as decides, and the request's answer is listed. Assumes nothing.
 use Prim.Native.Nat.{_-_}
 use mathlib.Core.Path.{refl, sym, ap, _∙_}
 use mathlib.Core.List.{[]}
@@ -13,8 +13,8 @@ use Rattle.script.specs.declared.Line.{Line}
 use Rattle.shelf.specs.Run.{shelf, requestStep}
 use Rattle.shelf.proofs.Steps.{became, request-by}
 use borrow.Author.Needs.{needs}
-use Rattle.shelf.proofs.run.ready.Statement.{statement}
-use Rattle.shelf.proofs.run.ready.Tie as tie
+use Rattle.shelf.proofs.request.ready.Statement.{statement}
+use Rattle.shelf.proofs.request.ready.Tie as tie
 
 request-line-requires : tie.Need-request-line-requires
 request-line-requires c κs = search needs

@@ -1,4 +1,4 @@
--- `shelf::run::second` meets its contract: whether the line can be read, and what format answers, decide. Assumes nothing.
+-- `shelf::head::second` meets its contract: whether the line can be read, and what format answers, decide. Assumes nothing.
 use Prim.Native.Nat.{ℕ}
 use mathlib.Core.Path.{refl, sym, ap, _∙_}
 use mathlib.Core.List.{List, [], _++_}
@@ -11,8 +11,8 @@ use Rattle.script.specs.Lines.{startGood}
 use Rattle.shelf.specs.Run.{shelf, secondStep}
 use Rattle.shelf.proofs.Steps.{became, silent, second-said}
 use borrow.Author.Needs.{needs}
-use Rattle.shelf.proofs.run.second.Statement.{statement}
-use Rattle.shelf.proofs.run.second.Tie as tie
+use Rattle.shelf.proofs.head.second.Statement.{statement}
+use Rattle.shelf.proofs.head.second.Tie as tie
 
 slice-relend-prefix-start-line : tie.Need-slice-relend-prefix-start-line
 slice-relend-prefix-start-line c = search needs

@@ -1,11 +1,11 @@
--- `shelf::run::tree_len` meets its contract: a tree of the shelf is low. Assumes nothing.
+-- `shelf::lengths::tree_len` meets its contract: a tree of the shelf is low. Assumes nothing.
 use mathlib.Core.Path.{ap, _∙_}
 use native.Mathlib.Omega.{arith}
 use Rattle.sizes.specs.Sizes.{treeLen}
 use Rattle.shelf.proofs.Steps.{tree-most}
 use borrow.Author.Needs.{needs}
-use Rattle.shelf.proofs.run.tree_len.Statement.{statement}
-use Rattle.shelf.proofs.run.tree_len.Tie as tie
+use Rattle.shelf.proofs.lengths.tree_len.Statement.{statement}
+use Rattle.shelf.proofs.lengths.tree_len.Tie as tie
 
 of-requires : tie.Need-of-requires
 of-requires c κs = search needs

@@ -1,7 +1,7 @@
--- `shelf::run::answer_of` meets its contract, case by case. Assumes nothing.
+-- `shelf::request::answer_of` meets its contract, case by case. Assumes nothing.
 use borrow.Author.Needs.{needs}
-use Rattle.shelf.proofs.run.answer_of.Statement.{statement}
-use Rattle.shelf.proofs.run.answer_of.Tie as tie
+use Rattle.shelf.proofs.request.answer_of.Statement.{statement}
+use Rattle.shelf.proofs.request.answer_of.Tie as tie
 
 enum-told : tie.Need-enum-told
 enum-told c = search needs

@@ -1,7 +1,7 @@
--- `shelf::run::put_row` meets its contract, case by case. Assumes nothing.
+-- `shelf::request::put_row` meets its contract, case by case. Assumes nothing.
 use borrow.Author.Needs.{needs}
-use Rattle.shelf.proofs.run.put_row.Statement.{statement}
-use Rattle.shelf.proofs.run.put_row.Tie as tie
+use Rattle.shelf.proofs.request.put_row.Statement.{statement}
+use Rattle.shelf.proofs.request.put_row.Tie as tie
 
 enum-known-answered : tie.Need-enum-known-answered
 enum-known-answered c = search needs

@@ -1,11 +1,11 @@
--- `shelf::run::path_len` meets its contract: a path of the shelf is short. Assumes nothing.
+-- `shelf::lengths::path_len` meets its contract: a path of the shelf is short. Assumes nothing.
 use mathlib.Core.Path.{ap, _∙_}
 use native.Mathlib.Omega.{arith}
 use Rattle.sizes.specs.Sizes.{pathLen}
 use Rattle.shelf.proofs.Steps.{path-most}
 use borrow.Author.Needs.{needs}
-use Rattle.shelf.proofs.run.path_len.Statement.{statement}
-use Rattle.shelf.proofs.run.path_len.Tie as tie
+use Rattle.shelf.proofs.lengths.path_len.Statement.{statement}
+use Rattle.shelf.proofs.lengths.path_len.Tie as tie
 
 of-requires : tie.Need-of-requires
 of-requires c κs = search needs
