@@ -3,8 +3,11 @@
 use desk::Kind;
 use sizes::Refusal;
 
+pub mod bytes;
+pub mod head;
 pub mod listing;
-pub mod reading;
+pub mod numbers;
+pub mod request;
 pub mod window;
 
 // A number of the script: its value, and how many digits it has.

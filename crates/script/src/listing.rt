@@ -1,7 +1,8 @@
 // The listing's lines, written into a buffer from a place on; each function answers with the place after what it wrote. Assumes nothing.
 use crate::Answer;
 use crate::Shown;
-use crate::reading;
+use crate::bytes;
+use crate::numbers;
 use desk::Kind;
 use sizes::Refusal;
 ghost use mathlib.Core.Path.{_≡_};
@@ -35,12 +36,12 @@ pub fn decimal(out: &mut [u8], at: usize, x: u64) -> usize
     let mut text = [0u8; MOST_DECIMAL];
     let mut i = MOST_DECIMAL - 1;
     let mut y = x;
-    while reading::TEN <= y {
-        text[i] = reading::ZERO + (y % reading::TEN) as u8;
-        y = y / reading::TEN;
+    while numbers::TEN <= y {
+        text[i] = numbers::ZERO + (y % numbers::TEN) as u8;
+        y = y / numbers::TEN;
         i -= 1;
     }
-    text[i] = reading::ZERO + y as u8;
+    text[i] = numbers::ZERO + y as u8;
     put(out, at, &text[i..MOST_DECIMAL])
 }
 
@@ -77,7 +78,7 @@ fn put_record(out: &mut [u8], at: usize, record: &[u8]) -> usize
     ensures { λ n. ⌜ Wrote (now (out .entry)) at (spec.recordText (now («record» .entry))) (now (out .exit)) n × (n ≤ at + length recordWord + recordLen) ⌝ }
 {
     let next = put(out, at, b"record ");
-    let n = reading::before(record, 0);
+    let n = bytes::before(record, 0);
     put(out, next, &record[..n])
 }
 

@@ -4,8 +4,8 @@ use crate::run;
 use crate::run::Run;
 use crate::run::Step;
 use script::First;
+use script::head;
 use script::listing;
-use script::reading;
 use sizes::Outcome;
 ghost use mathlib.Core.Path.{_≡_};
 ghost use mathlib.Core.List.{[]};
@@ -56,7 +56,7 @@ pub fn first(line: &[u8], out: &mut [u8]) -> Step
     requires { ⌜ mostRow ≤ length (now out) ⌝ }
     ensures { λ r. ⌜ (r .run ≡ firstStep (storeOf (now (line .entry))) nothing .run) × Wrote (now (out .entry)) 0 (firstStep (storeOf (now (line .entry))) nothing .text) (now (out .exit)) (r .written) × (r .written ≤ mostRow) ⌝ }
 {
-    match reading::store_line(line) {
+    match head::store_line(line) {
         First::Bad => run::bad(out),
         First::Store {
             height,
@@ -90,7 +90,7 @@ pub fn second(
     ensures { λ r. ⌜ Became (secondStep (startGood ids (now (line .entry))) height slots room ids (now (line .entry)) (shelf (now (desk .entry)) [] [] [] (now (leaves .entry)))) (now (out .entry)) (now (out .exit)) (r .run) (r .written) (shelf (now (desk .exit)) [] [] [] (now (leaves .exit))) ⌝ }
 {
     let n = ids as usize;
-    if !reading::start_line(line, &mut leaves[..n]) {
+    if !head::start_line(line, &mut leaves[..n]) {
         return run::bad(out);
     }
     let m = lengths::desk_len(room, ids);

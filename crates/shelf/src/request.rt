@@ -9,7 +9,7 @@ use script::Answer;
 use script::Line;
 use script::Shown;
 use script::listing;
-use script::reading;
+use script::request;
 use store::Finished;
 ghost use mathlib.Core.Path.{_≡_};
 ghost use mathlib.Core.List.{[]};
@@ -76,7 +76,7 @@ pub fn ready(
     requires { ⌜ Ready height slots ids count (now desk) (now tree) (now path) (now «record») (now out) ⌝ }
     ensures { λ r. ⌜ Became (requestStep (requestOf (now (line .entry))) height slots room ids count (now (line .entry)) (shelf (now (desk .entry)) (now (tree .entry)) (now (path .entry)) (now («record» .entry)) [])) (now (out .entry)) (now (out .exit)) (r .run) (r .written) (shelf (now (desk .exit)) (now (tree .exit)) (now (path .exit)) (now («record» .exit)) []) ⌝ }
 {
-    match reading::request_line(line) {
+    match request::request_line(line) {
         Line::Bad => run::bad(out),
         Line::Request {
             kind,
@@ -87,7 +87,7 @@ pub fn ready(
             let d = lengths::desk_len(room, ids);
             let t = lengths::tree_len(height, slots);
             let p = lengths::path_len(height, slots);
-            reading::lay_text(record, &line[text..]);
+            request::lay_text(record, &line[text..]);
             let answered = requests::request(
                 &mut desk[..d],
                 &mut tree[..t],
