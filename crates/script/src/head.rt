@@ -1,5 +1,6 @@
 // The script's first two lines, `store ` and `start `, read. Each function goes by a line without its line feed. Assumes nothing.
 use crate::First;
+use crate::Store;
 use crate::Taken;
 use crate::bytes;
 use crate::numbers;
@@ -13,7 +14,7 @@ pub const MOST_HEIGHT: u16 = 3;
 
 pub const MOST_BYTE: u16 = 255;
 
-// The first line, of its four numbers.
+// The first line, of its four numbers. A Z that is no byte goes on as 255, which format refuses as it would refuse Z itself.
 fn store_by(height: u16, slots: u16, room: u16, ids: u16) -> First
     ensures { λ r. ⌜ r ≡ storeBy height slots room ids ⌝ }
 {
@@ -23,12 +24,12 @@ fn store_by(height: u16, slots: u16, room: u16, ids: u16) -> First
     if MOST_BYTE < room {
         return First::Bad;
     }
-    First::Store {
+    First::Is(Store {
         height: height as u8,
         slots: least(slots, MOST_BYTE) as u8,
         room: room as u8,
         ids,
-    }
+    })
 }
 
 fn least(a: u16, b: u16) -> u16

@@ -33,14 +33,17 @@ pub enum Line {
     Bad,
 }
 
-// The first line: L, Z, S, N.
+// What the first line asks for: L, Z, S, N.
+pub struct Store {
+    pub height: u8,
+    pub slots: u8,
+    pub room: u8,
+    pub ids: u16,
+}
+
+// The first line.
 pub enum First {
-    Store {
-        height: u8,
-        slots: u8,
-        room: u8,
-        ids: u16,
-    },
+    Is(Store),
     Bad,
 }
 

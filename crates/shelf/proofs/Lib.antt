@@ -1,3 +1,3 @@
 pub mod Steps
 pub mod Frames
-pub mod Turns
+pub mod Between

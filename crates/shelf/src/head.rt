@@ -4,6 +4,7 @@ use crate::run;
 use crate::run::Run;
 use crate::run::Step;
 use script::First;
+use script::Store;
 use script::head;
 use script::listing;
 use sizes::Outcome;
@@ -13,7 +14,8 @@ ghost use Prim.Native.Nat.{_≤_};
 ghost use lib.ListN.{length};
 ghost use Rattle.script.specs.Lines.{storeOf, startGood};
 ghost use Rattle.script.specs.Listing.{Wrote, mostRow};
-ghost use Rattle.shelf.specs.Run.{firstStep, nothing, Second, Became, secondStep, shelf};
+ghost use Rattle.shelf.specs.Shelf.{nothing, shelf};
+ghost use Rattle.shelf.specs.Run.{firstStep, Second, Became, secondStep};
 
 // Bytes 0 to 31.
 const KEY: [u8; 32] = [
@@ -58,18 +60,8 @@ pub fn first(line: &[u8], out: &mut [u8]) -> Step
 {
     match head::store_line(line) {
         First::Bad => run::bad(out),
-        First::Store {
-            height,
-            slots,
-            room,
-            ids,
-        } => Step {
-            run: Run::Second {
-                height,
-                slots,
-                room,
-                ids,
-            },
+        First::Is(store) => Step {
+            run: Run::Second(store),
             written: 0,
         },
     }
@@ -78,23 +70,28 @@ pub fn first(line: &[u8], out: &mut [u8]) -> Step
 // The second line: the leaves are read, and the desk is formatted with them.
 pub fn second(
     line: &[u8],
-    height: u8,
-    slots: u8,
-    room: u8,
-    ids: u16,
+    store: Store,
     desk: &mut [u8],
     leaves: &mut [u16],
     out: &mut [u8],
 ) -> Step
-    requires { ⌜ Second ids (now desk) (now leaves) (now out) ⌝ }
-    ensures { λ r. ⌜ Became (secondStep (startGood ids (now (line .entry))) height slots room ids (now (line .entry)) (shelf (now (desk .entry)) [] [] [] (now (leaves .entry)))) (now (out .entry)) (now (out .exit)) (r .run) (r .written) (shelf (now (desk .exit)) [] [] [] (now (leaves .exit))) ⌝ }
+    requires { ⌜ Second store (now desk) (now leaves) (now out) ⌝ }
+    ensures { λ r. ⌜ Became (secondStep (startGood (store .ids) (now (line .entry))) store (now (line .entry)) (shelf (now (desk .entry)) [] [] [] (now (leaves .entry)))) (now (out .entry)) (now (out .exit)) (r .run) (r .written) (shelf (now (desk .exit)) [] [] [] (now (leaves .exit))) ⌝ }
 {
-    let n = ids as usize;
+    let n = store.ids as usize;
     if !head::start_line(line, &mut leaves[..n]) {
         return run::bad(out);
     }
-    let m = lengths::desk_len(room, ids);
-    match formats::format(&mut desk[..m], height, slots, room, ids, &KEY, &leaves[..n]) {
+    let m = lengths::desk_len(store);
+    match formats::format(
+        &mut desk[..m],
+        store.height,
+        store.slots,
+        store.room,
+        store.ids,
+        &KEY,
+        &leaves[..n],
+    ) {
         Outcome::Refused(r) => {
             let written = listing::format_row(out, r);
             Step {
@@ -103,13 +100,7 @@ pub fn second(
             }
         }
         Outcome::Done => Step {
-            run: Run::Ready {
-                height,
-                slots,
-                room,
-                ids,
-                count: 0,
-            },
+            run: Run::Ready { store, count: 0 },
             written: 0,
         },
     }

@@ -1,10 +1,11 @@
-// How long the desk, the tree and a path of the shelf are, and the most that they can be. Assumes nothing.
+// How long the desk, the tree and a path of a store are, and the most that they can be on the shelf. Assumes nothing.
+use script::Store;
 use sizes::Sizes;
 ghost use mathlib.Core.Path.{_≡_};
 ghost use Prim.Native.Nat.{_≤_};
-ghost use Rattle.sizes.specs.Sizes.{sized, InRange, deskLen, treeLen, pathLen, mostIds};
-ghost use Rattle.script.specs.Lines.{mostShelfHeight};
-ghost use Rattle.shelf.specs.Run.{mostDesk, mostTree, mostPath};
+ghost use Rattle.sizes.specs.Sizes.{mostIds};
+ghost use Rattle.shelf.specs.Shelf.{deskLenOf, treeLenOf, pathLenOf, mostDesk, mostTree, mostPath};
+ghost use Rattle.shelf.specs.Run.{Roomy};
 
 // The most bytes that the shelf's desk, tree and path can have, of height 3, 8 slots, 255 blocks in the stash and 4,096 ids.
 pub const MOST_DESK: usize = 29814;
@@ -13,30 +14,28 @@ pub const MOST_TREE: usize = 8742;
 
 pub const MOST_PATH: usize = 2406;
 
-// The length of the desk.
-pub fn desk_len(room: u8, ids: u16) -> usize
-    requires { ⌜ ids ≤ mostIds ⌝ }
-    ensures { λ r. ⌜ (r ≡ deskLen ids room) × (r ≤ mostDesk) ⌝ }
+pub fn desk_len(store: Store) -> usize
+    requires { ⌜ store .ids ≤ mostIds ⌝ }
+    ensures { λ r. ⌜ (r ≡ deskLenOf store) × (r ≤ mostDesk) ⌝ }
 {
     desk::Shape {
         b: desk::B_LEN,
         r: Sizes::RECORD,
-        n: ids as usize,
-        s: words::wide(room),
+        n: store.ids as usize,
+        s: words::wide(store.room),
     }.len()
 }
 
-// Lengths of the tree and of a path of this height.
-pub fn tree_len(height: u8, slots: u8) -> usize
-    requires { ⌜ InRange (sized height slots) × (height ≤ mostShelfHeight) ⌝ }
-    ensures { λ r. ⌜ (r ≡ treeLen (sized height slots)) × (r ≤ mostTree) ⌝ }
+pub fn tree_len(store: Store) -> usize
+    requires { ⌜ Roomy store ⌝ }
+    ensures { λ r. ⌜ (r ≡ treeLenOf store) × (r ≤ mostTree) ⌝ }
 {
-    Sizes::of(height, slots).tree_len()
+    Sizes::of(store.height, store.slots).tree_len()
 }
 
-pub fn path_len(height: u8, slots: u8) -> usize
-    requires { ⌜ InRange (sized height slots) × (height ≤ mostShelfHeight) ⌝ }
-    ensures { λ r. ⌜ (r ≡ pathLen (sized height slots)) × (r ≤ mostPath) ⌝ }
+pub fn path_len(store: Store) -> usize
+    requires { ⌜ Roomy store ⌝ }
+    ensures { λ r. ⌜ (r ≡ pathLenOf store) × (r ≤ mostPath) ⌝ }
 {
-    Sizes::of(height, slots).path_len()
+    Sizes::of(store.height, store.slots).path_len()
 }

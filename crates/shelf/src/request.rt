@@ -8,6 +8,7 @@ use requests::Answered;
 use script::Answer;
 use script::Line;
 use script::Shown;
+use script::Store;
 use script::listing;
 use script::request;
 use store::Finished;
@@ -18,7 +19,8 @@ ghost use lib.ListN.{length};
 ghost use Rattle.sizes.specs.Sizes.{recordLen};
 ghost use Rattle.script.specs.Lines.{requestOf};
 ghost use Rattle.script.specs.Listing.{Wrote, mostRow};
-ghost use Rattle.shelf.specs.Run.{Ready, Became, requestStep, shelf, answerOf, rowFor};
+ghost use Rattle.shelf.specs.Shelf.{shelf};
+ghost use Rattle.shelf.specs.Run.{Holds, Ready, Answers, Became, requestOn, requestStep, answerOf, rowFor};
 
 // What the listing says of finish's answer.
 fn answer_of(finished: Finished) -> Answer
@@ -59,13 +61,38 @@ fn put_row(out: &mut [u8], n: u64, kind: Kind, id: u16, answered: Answered, reco
     }
 }
 
-// A line of requests: the request is one call, and its answer is listed.
+// The request itself, over as much of the buffers as the store has.
+fn answer(
+    store: Store,
+    kind: Kind,
+    id: u16,
+    leaf: u16,
+    desk: &mut [u8],
+    tree: &mut [u8],
+    path: &mut [u8],
+    record: &mut [u8],
+) -> Answered
+    requires { ⌜ Holds store (now desk) (now tree) (now path) ⌝ }
+    ensures { λ r. ⌜ Answers (requestOn store kind id leaf (now («record» .entry)) (shelf (now (desk .entry)) (now (tree .entry)) (now (path .entry)) (now («record» .entry)) [])) store (shelf (now (desk .entry)) (now (tree .entry)) (now (path .entry)) (now («record» .entry)) []) r (shelf (now (desk .exit)) (now (tree .exit)) (now (path .exit)) (now («record» .exit)) []) ⌝ }
+{
+    let d = lengths::desk_len(store);
+    let t = lengths::tree_len(store);
+    let p = lengths::path_len(store);
+    requests::request(
+        &mut desk[..d],
+        &mut tree[..t],
+        &mut path[..p],
+        record,
+        kind,
+        id,
+        leaf,
+    )
+}
+
+// A line of requests, of which `count` were read before.
 pub fn ready(
     line: &[u8],
-    height: u8,
-    slots: u8,
-    room: u8,
-    ids: u16,
+    store: Store,
     count: u64,
     desk: &mut [u8],
     tree: &mut [u8],
@@ -73,8 +100,8 @@ pub fn ready(
     record: &mut [u8],
     out: &mut [u8],
 ) -> Step
-    requires { ⌜ Ready height slots ids count (now desk) (now tree) (now path) (now «record») (now out) ⌝ }
-    ensures { λ r. ⌜ Became (requestStep (requestOf (now (line .entry))) height slots room ids count (now (line .entry)) (shelf (now (desk .entry)) (now (tree .entry)) (now (path .entry)) (now («record» .entry)) [])) (now (out .entry)) (now (out .exit)) (r .run) (r .written) (shelf (now (desk .exit)) (now (tree .exit)) (now (path .exit)) (now («record» .exit)) []) ⌝ }
+    requires { ⌜ Ready store count (now desk) (now tree) (now path) (now «record») (now out) ⌝ }
+    ensures { λ r. ⌜ Became (requestStep (requestOf (now (line .entry))) store count (now (line .entry)) (shelf (now (desk .entry)) (now (tree .entry)) (now (path .entry)) (now («record» .entry)) [])) (now (out .entry)) (now (out .exit)) (r .run) (r .written) (shelf (now (desk .exit)) (now (tree .exit)) (now (path .exit)) (now («record» .exit)) []) ⌝ }
 {
     match request::request_line(line) {
         Line::Bad => run::bad(out),
@@ -84,28 +111,12 @@ pub fn ready(
             leaf,
             text,
         } => {
-            let d = lengths::desk_len(room, ids);
-            let t = lengths::tree_len(height, slots);
-            let p = lengths::path_len(height, slots);
             request::lay_text(record, &line[text..]);
-            let answered = requests::request(
-                &mut desk[..d],
-                &mut tree[..t],
-                &mut path[..p],
-                record,
-                kind,
-                id,
-                leaf,
-            );
-            let written = put_row(out, count + 1, kind, id, answered, record);
+            let answered = answer(store, kind, id, leaf, desk, tree, path, record);
+            let n = count + 1;
+            let written = put_row(out, n, kind, id, answered, record);
             Step {
-                run: Run::Ready {
-                    height,
-                    slots,
-                    room,
-                    ids,
-                    count: count + 1,
-                },
+                run: Run::Ready { store, count: n },
                 written,
             }
         }

@@ -1,30 +1,21 @@
 // The run of a script, line by line, over a store's buffers and a tree of its own. What a line does is `stepOf` of specs/Run.antt. Assumes nothing.
 use crate::head;
 use crate::request;
+use script::Store;
 use script::listing;
 ghost use mathlib.Core.Path.{_≡_};
 ghost use Prim.Native.Nat.{_≤_};
 ghost use lib.ListN.{length};
 ghost use Rattle.script.specs.Text.{badLine};
 ghost use Rattle.script.specs.Listing.{Wrote, mostRow};
-ghost use Rattle.shelf.specs.Run.{Became, stepOf, endText, Runs, shelf};
+ghost use Rattle.shelf.specs.Shelf.{shelf};
+ghost use Rattle.shelf.specs.Run.{Became, stepOf, isOver, endText, Runs};
 
 // Where a run stands: the first line is to come, or the second, or requests, of which `count` were read; or it is over.
 pub enum Run {
     First,
-    Second {
-        height: u8,
-        slots: u8,
-        room: u8,
-        ids: u16,
-    },
-    Ready {
-        height: u8,
-        slots: u8,
-        room: u8,
-        ids: u16,
-        count: u64,
-    },
+    Second(Store),
+    Ready { store: Store, count: u64 },
     Over,
 }
 
@@ -62,24 +53,10 @@ pub fn take_line(
 {
     match run {
         Run::First => head::first(line, out),
-        Run::Second {
-            height,
-            slots,
-            room,
-            ids,
-        } => head::second(line, height, slots, room, ids, desk, leaves, out),
-        Run::Ready {
-            height,
-            slots,
-            room,
-            ids,
-            count,
-        } => request::ready(
+        Run::Second(store) => head::second(line, store, desk, leaves, out),
+        Run::Ready { store, count } => request::ready(
             line,
-            height,
-            slots,
-            room,
-            ids,
+            store,
             count,
             desk,
             tree,
@@ -94,8 +71,15 @@ pub fn take_line(
     }
 }
 
-pub fn is_over(run: Run) -> bool {
-    if let Run::Over = run { true } else { false }
+pub fn is_over(run: Run) -> bool
+    ensures { λ r. ⌜ r ≡ isOver run ⌝ }
+{
+    match run {
+        Run::First => false,
+        Run::Second(_) => false,
+        Run::Ready { store: _, count: _ } => false,
+        Run::Over => true,
+    }
 }
 
 // The script is over: a first or second line that never came counts as one that can't be read.
@@ -105,19 +89,8 @@ pub fn at_end(run: Run, out: &mut [u8]) -> usize
 {
     match run {
         Run::First => listing::bad_line(out),
-        Run::Second {
-            height: _,
-            slots: _,
-            room: _,
-            ids: _,
-        } => listing::bad_line(out),
-        Run::Ready {
-            height: _,
-            slots: _,
-            room: _,
-            ids: _,
-            count: _,
-        } => 0,
+        Run::Second(_) => listing::bad_line(out),
+        Run::Ready { store: _, count: _ } => 0,
         Run::Over => 0,
     }
 }

@@ -16,8 +16,8 @@ enum-told c = search needs
 bad-requires : tie.Need-bad-requires
 bad-requires c κs = search needs
 
-enum-known-height : tie.Need-enum-known-height
-enum-known-height c = search needs
+enum-known-store : tie.Need-enum-known-store
+enum-known-store c = search needs
 
 same-length : tie.Need-same-length
 same-length c = search needs
@@ -29,7 +29,7 @@ returns c =
 
 returns-2 : tie.Need-returns-2
 returns-2 c =
-    let e = sym (c .before .before .before .store-line .ensures) ∙ c .before .height .given .1 in
+    let e = sym (c .before .before .before .store-line .ensures) ∙ c .before .store .given .1 in
     (rw e, rw e (silent (now (c .before .before .before .before .before .before .args .out))), omega arith)
 
 pub first-spec : {M : Type 1} → statement M
@@ -39,7 +39,7 @@ first-spec =
     store-line-requires
     enum-told
     bad-requires
-    enum-known-height
+    enum-known-store
     same-length
     returns
     returns-2)

@@ -11,14 +11,14 @@ of-requires : tie.Need-of-requires
 of-requires c κs = search needs
 
 path-len-requires : tie.Need-path-len-requires
-path-len-requires c κs = rw (c .of .ensures) (c .before .pre .0)
+path-len-requires c κs = rw (c .of .ensures) (c .before .pre .range)
 
 returns : tie.Need-returns
 returns c =
     let a = c .before .before .args in
     let p = c .before .before .pre in
     let e = c .path-len .ensures ∙ ap pathLen (c .before .of .ensures) in
-    (e, omega (arith, path-most (a .height) (a .slots) (p .0 .height-low) (p .1) (p .0 .slots-high)))
+    (e, omega (arith, path-most (a .store .height) (a .store .slots) (p .range .height-low) (p .given .height-high) (p .range .slots-high)))
 
 pub path-len-spec : {M : Type 1} → statement M
 path-len-spec = tie.close (tie.spec of-requires path-len-requires returns)

@@ -5,13 +5,13 @@ use mathlib.Core.List.{[]}
 use native.Mathlib.Omega.{arith}
 use denote.Ref.{now}
 use lib.ListN.{length}
-use lib.Seq.{length-take-le}
 use Rattle.words.proofs.Splice.{part-tail, length-part}
-use Rattle.script.proofs.Bounds.{request-fits}
-use Rattle.script.specs.Lines.{recordOf}
 use Rattle.script.specs.declared.Line.{Line}
-use Rattle.shelf.specs.Run.{shelf, requestStep}
-use Rattle.shelf.proofs.Steps.{became, request-by}
+use Rattle.script.specs.Lines.{recordOf}
+use Rattle.script.proofs.Bounds.{request-fits}
+use Rattle.shelf.specs.Shelf.{shelf}
+use Rattle.shelf.specs.Run.{requestStep}
+use Rattle.shelf.proofs.Steps.{became, request-said}
 use borrow.Author.Needs.{needs}
 use Rattle.shelf.proofs.request.ready.Statement.{statement}
 use Rattle.shelf.proofs.request.ready.Tie as tie
@@ -28,59 +28,29 @@ bad-requires c κs = search needs
 enum-known-kind : tie.Need-enum-known-kind
 enum-known-kind c = search needs
 
-desk-len-requires : tie.Need-desk-len-requires
-desk-len-requires c κs = search needs
-
-tree-len-requires : tie.Need-tree-len-requires
-tree-len-requires c κs = search needs
-
-path-len-requires : tie.Need-path-len-requires
-path-len-requires c κs = search needs
-
 sub-lay-text : tie.Need-sub-lay-text
-sub-lay-text c = request-fits (now (c .before .before .before .before .before .before .before .before .before .before .before .before .before .before .args .line)) _ _ _ _ (sym (c .before .before .before .before .before .before .before .request-line .ensures) ∙ c .before .before .before .before .before .kind .given .1) .inside
+sub-lay-text c = request-fits (now (c .before .before .before .before .before .before .before .before .before .before .before .args .line)) _ _ _ _ (sym (c .before .before .before .before .request-line .ensures) ∙ c .before .before .kind .given .1) .inside
 
 part-lay-text-start : tie.Need-part-lay-text-start
-part-lay-text-start c = request-fits (now (c .before .before .before .before .before .before .before .before .before .before .before .before .before .before .args .line)) _ _ _ _ (sym (c .before .before .before .before .before .before .before .request-line .ensures) ∙ c .before .before .before .before .before .kind .given .1) .inside
+part-lay-text-start c = request-fits (now (c .before .before .before .before .before .before .before .before .before .before .before .args .line)) _ _ _ _ (sym (c .before .before .before .before .request-line .ensures) ∙ c .before .before .kind .given .1) .inside
 
 part-lay-text-end : tie.Need-part-lay-text-end
 part-lay-text-end c = search needs
 
 lay-text-requires : tie.Need-lay-text-requires
 lay-text-requires c κs =
-    let xs = now (c .before .before .before .before .before .before .before .before .before .before .before .before .before .before .before .args .line) in
-    let f = request-fits xs _ _ _ _ (sym (c .before .before .before .before .before .before .before .before .request-line .ensures) ∙ c .before .before .before .before .before .before .kind .given .1) in
-    (c .before .before .before .before .before .before .before .before .before .before .before .before .before .before .before .pre .buffer-is, omega (arith, length-part xs (c .before .before .before .before .before .before .kind .given .0 .1 .1 .1 .0) (length xs - c .before .before .before .before .before .before .kind .given .0 .1 .1 .1 .0) (omega arith)))
+    let xs = now (c .before .before .before .before .before .before .before .before .before .before .before .before .args .line) in
+    let f = request-fits xs _ _ _ _ (sym (c .before .before .before .before .before .request-line .ensures) ∙ c .before .before .before .kind .given .1) in
+    (c .before .before .before .before .before .before .before .before .before .before .before .before .pre .buffer-is, omega (arith, length-part xs (c .before .before .before .kind .given .0 .1 .1 .1 .0) (length xs - c .before .before .before .kind .given .0 .1 .1 .1 .0) (omega (arith, f .inside)), f .text-most))
 
-slice-relend-prefix-request : tie.Need-slice-relend-prefix-request
-slice-relend-prefix-request c = search needs
+answer-requires : tie.Need-answer-requires
+answer-requires c κs = search needs
 
-slice-aggregate-request : tie.Need-slice-aggregate-request
-slice-aggregate-request c = sym (length-take-le (c .before .before .before .before .before .before .before .before .desk-len .result) (now (c .before .before .before .before .before .before .before .before .before .before .before .before .before .before .before .before .before .before .before .args .desk)) (omega (arith, c .before .before .before .before .before .before .before .before .desk-len .ensures .1, c .before .before .before .before .before .before .before .before .before .before .before .before .before .before .before .before .before .before .before .pre .desk-most)))
-
-slice-relend-prefix-request-2 : tie.Need-slice-relend-prefix-request-2
-slice-relend-prefix-request-2 c = search needs
-
-slice-aggregate-request-2 : tie.Need-slice-aggregate-request-2
-slice-aggregate-request-2 c = sym (length-take-le (c .before .before .before .before .before .before .before .before .tree-len .result) (now (c .before .before .before .before .before .before .before .before .before .before .before .before .before .before .before .before .before .before .before .before .args .tree)) (omega (arith, c .before .before .before .before .before .before .before .before .tree-len .ensures .1, c .before .before .before .before .before .before .before .before .before .before .before .before .before .before .before .before .before .before .before .before .pre .tree-most)))
-
-slice-relend-prefix-request-3 : tie.Need-slice-relend-prefix-request-3
-slice-relend-prefix-request-3 c = search needs
-
-slice-aggregate-request-3 : tie.Need-slice-aggregate-request-3
-slice-aggregate-request-3 c = sym (length-take-le (c .before .before .before .before .before .before .before .before .path-len .result) (now (c .before .before .before .before .before .before .before .before .before .before .before .before .before .before .before .before .before .before .before .before .before .args .path)) (omega (arith, c .before .before .before .before .before .before .before .before .path-len .ensures .1, c .before .before .before .before .before .before .before .before .before .before .before .before .before .before .before .before .before .before .before .before .before .pre .path-most)))
-
-request-requires : tie.Need-request-requires
-request-requires c κs = search needs
-
-add-put-row : tie.Need-add-put-row
-add-put-row c = omega (arith, c .before .before .before .before .before .before .before .before .before .before .before .before .before .before .before .before .before .before .before .before .before .before .before .before .before .before .before .before .before .before .before .before .pre .count-high)
+add-n : tie.Need-add-n
+add-n c = search needs
 
 put-row-requires : tie.Need-put-row-requires
-put-row-requires c κs = (c .before .before .before .before .before .before .before .before .before .before .before .before .before .before .before .before .before .before .before .before .before .before .before .before .before .before .before .before .before .before .before .before .before .pre .out-most, c .before .before .before .before .before .before .before .before .before .before .request .kept .1 .1 .1 .0 ∙ c .before .before .before .before .before .before .before .before .before .before .before .before .before .before .before .before .before .lay-text .kept .0 ∙ c .before .before .before .before .before .before .before .before .before .before .before .before .before .before .before .before .before .before .before .before .before .before .before .before .before .before .before .before .before .before .before .before .before .pre .buffer-is)
-
-add-t42 : tie.Need-add-t42
-add-t42 c = omega (arith, c .before .before .before .before .before .before .before .before .before .before .before .before .before .before .before .before .before .before .before .before .before .before .before .before .before .before .before .before .before .before .before .before .before .before .before .before .pre .count-high)
+put-row-requires c κs = search needs
 
 same-length : tie.Need-same-length
 same-length c = search needs
@@ -89,7 +59,7 @@ returns : tie.Need-returns
 returns c =
     let a = c .before .before .before .before .before .before .before .before .before .before .before .before .before .args in
     let e = sym (c .before .before .before .before .before .before .request-line .ensures) ∙ c .before .before .before .before .enum-told .given .1 in
-    became (ap (λ (x : Line). requestStep x (a .height) (a .slots) (a .room) (a .ids) (a .count) (now (a .line)) (shelf (now (a .desk)) (now (a .tree)) (now (a .path)) (now (a .«record»)) [])) e)
+    became (ap (λ (q : Line). requestStep q (a .store) (a .count) (now (a .line)) (shelf (now (a .desk)) (now (a .tree)) (now (a .path)) (now (a .«record»)) [])) e)
     (record { run-is = c .before .before .bad .ensures .0; shelf-is = refl; wrote = c .before .before .bad .ensures .1; most = c .before .before .bad .ensures .2 })
 
 same-length-2 : tie.Need-same-length-2
@@ -109,16 +79,14 @@ same-length-6 c = search needs
 
 returns-2 : tie.Need-returns-2
 returns-2 c =
-    let a = c .before .before .before .before .before .before .before .before .before .before .before .before .before .before .before .before .before .before .before .before .before .before .before .before .before .before .before .before .before .before .before .before .before .before .before .before .args in
+    let a = c .before .before .before .before .before .before .before .before .before .before .before .before .before .before .before .before .before .before .before .before .before .before .before .before .before .before .before .before .before .before .before .before .before .args in
     let xs = now (a .line) in
-    let k = c .before .before .before .before .before .before .before .before .before .before .before .before .before .before .before .before .before .before .before .before .before .before .before .before .before .before .before .kind .given in
-    let e = sym (c .before .before .before .before .before .before .before .before .before .before .before .before .before .before .before .before .before .before .before .before .before .before .before .before .before .before .before .before .before .request-line .ensures) ∙ k .1 in
-    let f = request-fits xs _ _ _ _ e in
+    let k = c .before .before .before .before .before .before .before .before .before .before .before .before .before .before .before .before .before .before .before .before .before .before .before .before .kind .given in
+    let e = sym (c .before .before .before .before .before .before .before .before .before .before .before .before .before .before .before .before .before .before .before .before .before .before .before .before .before .before .request-line .ensures) ∙ k .1 in
     let t = k .0 .1 .1 .1 .0 in
-    let i = c .before .before .before .before .before .before .before .before .before .before .before .before .before .before .before .before .before .before .before .before .lay-text .ensures ∙ ap recordOf (part-tail xs t (length xs - t) (omega (arith, f .inside))) in
-    let q = c .before .before .before .before .before .before .before .before .before .before .before .before .before .request in
-    let m = request-by (a .height) (a .slots) (a .room) (a .ids) (a .count) xs (shelf (now (a .desk)) (now (a .tree)) (now (a .path)) (now (a .«record»)) []) _ _ _ t (q .result) _ _ _ _ (c .before .before .before .before .before .before .before .before .before .before .before .before .before .before .before .before .before .before .before .before .before .before .before .before .before .desk-len .result) (c .before .before .before .before .before .before .before .before .before .before .before .before .before .before .before .before .before .before .before .before .before .before .before .before .tree-len .result) (c .before .before .before .before .before .before .before .before .before .before .before .before .before .before .before .before .before .before .before .before .before .before .before .path-len .result) _ e (c .before .before .before .before .before .before .before .before .before .before .before .before .before .before .before .before .before .before .before .before .before .before .before .before .before .desk-len .ensures .0) (c .before .before .before .before .before .before .before .before .before .before .before .before .before .before .before .before .before .before .before .before .before .before .before .before .tree-len .ensures .0) (c .before .before .before .before .before .before .before .before .before .before .before .before .before .before .before .before .before .before .before .before .before .before .before .path-len .ensures .0) i (q .ensures) in
-    became m (record { run-is = refl; shelf-is = refl; wrote = c .before .before .put-row .ensures .0; most = c .before .before .put-row .ensures .1 })
+    let i = c .before .before .before .before .before .before .before .before .before .before .before .before .before .before .before .before .before .before .before .before .lay-text .ensures ∙ ap recordOf (part-tail xs t (length xs - t) (omega (arith, request-fits xs _ _ _ _ e .inside))) in
+    let q = c .before .before .before .before .before .before .before .before .before .before .before .before .before .answer in
+    request-said (a .store) (a .count) xs (now (a .desk)) (now (a .tree)) (now (a .path)) (now (a .«record»)) _ _ _ _ t (q .result) _ e i (q .ensures) (c .before .before .put-row .ensures .0) (c .before .before .put-row .ensures .1)
 
 pub ready-spec : {M : Type 1} → statement M
 ready-spec =
@@ -128,23 +96,13 @@ ready-spec =
     enum-told
     bad-requires
     enum-known-kind
-    desk-len-requires
-    tree-len-requires
-    path-len-requires
     sub-lay-text
     part-lay-text-start
     part-lay-text-end
     lay-text-requires
-    slice-relend-prefix-request
-    slice-aggregate-request
-    slice-relend-prefix-request-2
-    slice-aggregate-request-2
-    slice-relend-prefix-request-3
-    slice-aggregate-request-3
-    request-requires
-    add-put-row
+    answer-requires
+    add-n
     put-row-requires
-    add-t42
     same-length
     returns
     same-length-2

@@ -1,13 +1,13 @@
--- `shelf::more` meets its contract: the text is at the front, and ends within the window. Assumes nothing.
+-- `shelf::turns::more` meets its contract: the text is at the front, and ends within the window. Assumes nothing.
 use mathlib.Core.Path.{sym}
 use native.Mathlib.Omega.{arith}
 use lib.Seq.{length-take-le}
 use borrow.Author.Needs.{needs}
-use Rattle.shelf.proofs.more.Statement.{statement}
-use Rattle.shelf.proofs.more.Tie as tie
+use Rattle.shelf.proofs.turns.more.Statement.{statement}
+use Rattle.shelf.proofs.turns.more.Tie as tie
 
-sub-if1 : tie.Need-sub-if1
-sub-if1 c = search needs
+sub-n : tie.Need-sub-n
+sub-n c = search needs
 
 bad-requires : tie.Need-bad-requires
 bad-requires c κs = search needs
@@ -30,9 +30,6 @@ returns c = search needs
 fill-requires : tie.Need-fill-requires
 fill-requires c κs = search needs
 
-sub-t9 : tie.Need-sub-t9
-sub-t9 c = search needs
-
 same-length-2 : tie.Need-same-length-2
 same-length-2 c = search needs
 
@@ -43,7 +40,7 @@ pub more-spec : {M : Type 1} → statement M
 more-spec =
     tie.close
     (tie.spec
-    sub-if1
+    sub-n
     bad-requires
     slice-reshare-prefix-write-all
     slice-aggregate-write-all
@@ -51,6 +48,5 @@ more-spec =
     same-length
     returns
     fill-requires
-    sub-t9
     same-length-2
     returns-2)

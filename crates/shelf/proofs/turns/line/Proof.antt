@@ -1,15 +1,16 @@
--- `shelf::line` meets its contract: a sound run stays sound, and the text is read on from the next line. Assumes nothing.
+-- `shelf::turns::line` meets its contract: a sound run stays sound, and the text is read on from the next line. Assumes nothing.
 use Prim.Native.Nat.{_-_}
 use mathlib.Core.Path.{sym}
 use native.Mathlib.Omega.{arith}
 use denote.Ref.{now}
 use lib.ListN.{take, drop}
 use lib.Seq.{length-take-le}
-use Rattle.shelf.specs.Run.{shelf}
+use Rattle.shelf.specs.Shelf.{shelf}
 use Rattle.shelf.proofs.Frames.{good-after}
+use Rattle.shelf.proofs.Between.{turned-in}
 use borrow.Author.Needs.{needs}
-use Rattle.shelf.proofs.line.Statement.{statement}
-use Rattle.shelf.proofs.line.Tie as tie
+use Rattle.shelf.proofs.turns.line.Statement.{statement}
+use Rattle.shelf.proofs.turns.line.Tie as tie
 
 sub-take-line : tie.Need-sub-take-line
 sub-take-line c = search needs
@@ -24,7 +25,7 @@ take-line-requires : tie.Need-take-line-requires
 take-line-requires c κs = search needs
 
 slice-reshare-prefix-write-all : tie.Need-slice-reshare-prefix-write-all
-slice-reshare-prefix-write-all c = search needs
+slice-reshare-prefix-write-all c = omega (arith, c .before .before .before .before .before .before .before .before .before .before .before .before .take-line .ensures .most, c .before .before .before .before .before .before .before .before .before .before .before .before .take-line .kept .1 .1 .1 .1 .1 .1 .1 .0, c .before .before .before .before .before .before .before .before .before .before .before .before .before .before .before .before .before .before .before .before .before .before .before .before .before .before .before .pre .3 .runs .lent .out-most)
 
 slice-aggregate-write-all : tie.Need-slice-aggregate-write-all
 slice-aggregate-write-all c = sym (length-take-le (c .before .before .before .before .before .before .before .before .before .before .before .before .before .take-line .result .written) (c .before .before .before .before .before .before .before .before .before .before .before .before .before .take-line .last .1 .1 .1 .1 .1 .1 .1 .0) (omega (arith, c .before .before .before .before .before .before .before .before .before .before .before .before .before .take-line .ensures .most, c .before .before .before .before .before .before .before .before .before .before .before .before .before .take-line .kept .1 .1 .1 .1 .1 .1 .1 .0, c .before .before .before .before .before .before .before .before .before .before .before .before .before .before .before .before .before .before .before .before .before .before .before .before .before .before .before .before .pre .3 .runs .lent .out-most)))
@@ -53,8 +54,13 @@ same-length-6 c = search needs
 returns : tie.Need-returns
 returns c = search needs
 
-is-over-requires : tie.Need-is-over-requires
-is-over-requires c κs = search needs
+go-on-requires : tie.Need-go-on-requires
+go-on-requires c κs =
+    let a = c .before .before .before .before .before .before .before .before .before .before .before .before .before .before .before .before .before .before .before .before .before .before .before .before .before .before .before .before .before .before .args in
+    let p = c .before .before .before .before .before .before .before .before .before .before .before .before .before .before .before .before .before .before .before .before .before .before .before .before .before .before .before .before .before .before .pre in
+    let s = c .before .before .before .before .before .before .before .before .before .before .before .before .before .before .before .take-line in
+    let g = good-after (a .at .run) (s .result .run) (take (a .end - a .at .from) (drop (a .at .from) (now (a .window)))) (shelf (now (a .desk)) (now (a .tree)) (now (a .path)) (now (a .«record»)) (now (a .leaves))) (p .3 .runs .sound) (s .ensures .run-is) in
+    (p .2, g .0, g .1)
 
 same-length-7 : tie.Need-same-length-7
 same-length-7 c = search needs
@@ -75,32 +81,7 @@ same-length-12 : tie.Need-same-length-12
 same-length-12 c = search needs
 
 returns-2 : tie.Need-returns-2
-returns-2 c = search needs
-
-same-length-13 : tie.Need-same-length-13
-same-length-13 c = search needs
-
-same-length-14 : tie.Need-same-length-14
-same-length-14 c = search needs
-
-same-length-15 : tie.Need-same-length-15
-same-length-15 c = search needs
-
-same-length-16 : tie.Need-same-length-16
-same-length-16 c = search needs
-
-same-length-17 : tie.Need-same-length-17
-same-length-17 c = search needs
-
-same-length-18 : tie.Need-same-length-18
-same-length-18 c = search needs
-
-returns-3 : tie.Need-returns-3
-returns-3 c =
-    let a = c .before .before .before .before .before .before .before .before .before .before .before .before .before .before .before .before .before .before .before .before .before .before .before .before .before .before .before .before .before .before .before .before .args in
-    let p = c .before .before .before .before .before .before .before .before .before .before .before .before .before .before .before .before .before .before .before .before .before .before .before .before .before .before .before .before .before .before .before .before .pre in
-    let g = good-after (a .run) (c .before .before .before .before .before .before .before .before .before .before .before .before .before .before .before .before .before .take-line .result .run) (take (a .end - a .from) (drop (a .from) (now (a .window)))) (shelf (now (a .desk)) (now (a .tree)) (now (a .path)) (now (a .«record»)) (now (a .leaves))) (p .3 .runs .sound) (c .before .before .before .before .before .before .before .before .before .before .before .before .before .before .before .before .before .take-line .ensures .run-is) in
-    record { from-to = p .2; inside = p .3 .inside; sound = g .0; count-high = g .1 }
+returns-2 c = turned-in (c .go-on .result) _ _ _ (c .before .before .before .before .before .before .before .before .before .before .before .before .before .before .before .before .before .before .before .before .before .before .before .before .before .before .before .before .before .before .before .pre .3 .inside) (c .go-on .ensures)
 
 pub line-spec : {M : Type 1} → statement M
 line-spec =
@@ -120,18 +101,11 @@ line-spec =
     same-length-5
     same-length-6
     returns
-    is-over-requires
+    go-on-requires
     same-length-7
     same-length-8
     same-length-9
     same-length-10
     same-length-11
     same-length-12
-    returns-2
-    same-length-13
-    same-length-14
-    same-length-15
-    same-length-16
-    same-length-17
-    same-length-18
-    returns-3)
+    returns-2)

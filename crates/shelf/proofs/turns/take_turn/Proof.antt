@@ -1,9 +1,9 @@
--- `shelf::take_turn` meets its contract: a line lies in the window. Assumes nothing.
+-- `shelf::turns::take_turn` meets its contract: a line lies in the window. Assumes nothing.
 use mathlib.Core.Path.{subst}
 use Rattle.script.specs.Pieces.{Ahead}
 use borrow.Author.Needs.{needs}
-use Rattle.shelf.proofs.take_turn.Statement.{statement}
-use Rattle.shelf.proofs.take_turn.Tie as tie
+use Rattle.shelf.proofs.turns.take_turn.Statement.{statement}
+use Rattle.shelf.proofs.turns.take_turn.Tie as tie
 
 next-line-requires : tie.Need-next-line-requires
 next-line-requires c κs = search needs
@@ -25,7 +25,7 @@ enum-known-end c = search needs
 
 line-requires : tie.Need-line-requires
 line-requires c κs =
-    let a = c .before .before .before .before .before .before .before .before .before .before .before .before .before .before .before .before .before .before .before .args in
+    let a = c .before .before .before .before .before .before .before .before .before .before .before .before .before .before .before .before .before .before .before .args .at in
     let h = subst (Ahead (a .from) (a .to)) (c .before .before .before .before .before .before .before .before .end .given .1) (c .before .before .before .before .before .before .before .before .before .before .next-line .ensures .1) in
     (h .0, h .1, h .3, c .before .before .before .before .before .before .before .before .before .before .before .before .before .before .before .before .before .before .before .pre)
 

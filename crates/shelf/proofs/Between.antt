@@ -1,14 +1,19 @@
 -- The program's loop: between two turns the buffers have the lengths that they came with, the unread text lies in the window, and the run is sound. Assumes nothing.
 use Prim.Native.Nat.{ℕ, _+_, _-_, _^_, _≤_, _<_}
 use mathlib.Core.Path.{_≡_, refl, _∙_}
+use mathlib.Core.Bool.{false}
 use mathlib.Core.List.{List}
 use native.Mathlib.Omega.{arith}
 use lib.ListN.{length}
-use Rattle.shelf.specs.declared.run.Run.{Run}
 use Rattle.shelf.specs.declared.run.Run.the-variants as run
-use Rattle.shelf.specs.Run.{shelf, Lent, Sound, countOf, Left}
+use Rattle.shelf.specs.declared.turns.Place.{Place}
+use Rattle.shelf.specs.declared.turns.Turn.{Turn}
+use Rattle.shelf.specs.declared.turns.Turn.the-variants as turn
+use Rattle.shelf.specs.Shelf.{shelf, Lent}
+use Rattle.shelf.specs.Run.{Sound, countOf}
+use Rattle.shelf.specs.Turns.{Left, Turned}
 
-pub record Between (w₀ d₀ t₀ p₀ b₀ l₀ o₀ w d t p b l o : List ℕ) (from to : ℕ) (r : Run) (turns : ℕ) : Type 0 where
+pub record Between (w₀ d₀ t₀ p₀ b₀ l₀ o₀ w d t p b l o : List ℕ) (at : Place) (turns : ℕ) : Type 0 where
   pub window-is : length w ≡ length w₀
   pub desk-is : length d ≡ length d₀
   pub tree-is : length t ≡ length t₀
@@ -16,13 +21,13 @@ pub record Between (w₀ d₀ t₀ p₀ b₀ l₀ o₀ w d t p b l o : List ℕ)
   pub buffer-is : length b ≡ length b₀
   pub leaves-is : length l ≡ length l₀
   pub out-is : length o ≡ length o₀
-  pub from-to : from ≤ to
-  pub inside : to ≤ length w
-  pub sound : Sound r
-  pub counted : countOf r + turns < 2 ^ 64
+  pub from-to : at .from ≤ at .to
+  pub inside : at .to ≤ length w
+  pub sound : Sound (at .run)
+  pub counted : countOf (at .run) + turns < 2 ^ 64
   pub lent : Lent (shelf d t p b l) o
 
-pub between-first : (w d t p b l o : List ℕ) (turns : ℕ) → turns < 2 ^ 64 → Lent (shelf d t p b l) o → Between w d t p b l o w d t p b l o 0 0 run.First turns
+pub between-first : (w d t p b l o : List ℕ) (turns : ℕ) → turns < 2 ^ 64 → Lent (shelf d t p b l) o → Between w d t p b l o w d t p b l o (record { from = 0; to = 0; ended = false; run = run.First }) turns
 between-first w d t p b l o turns h e =
     record {
       window-is = refl;
@@ -39,9 +44,9 @@ between-first w d t p b l o turns h e =
       lent = e;
     }
 
-module _ {w₀ d₀ t₀ p₀ b₀ l₀ o₀ w d t p b l o : List ℕ} {from to : ℕ} {r : Run} {turns : ℕ} (x : Between w₀ d₀ t₀ p₀ b₀ l₀ o₀ w d t p b l o from to r turns) where
-  pub between-next : {w′ d′ t′ p′ b′ l′ o′ : List ℕ} {from′ to′ : ℕ} {r′ : Run} → length w′ ≡ length w → length d′ ≡ length d → length t′ ≡ length t → length p′ ≡ length p → length b′ ≡ length b → length l′ ≡ length l → length o′ ≡ length o
-      → Left from′ to′ r′ (countOf r) (length w) → 0 < turns → Between w₀ d₀ t₀ p₀ b₀ l₀ o₀ w′ d′ t′ p′ b′ l′ o′ from′ to′ r′ (turns - 1)
+module _ {w₀ d₀ t₀ p₀ b₀ l₀ o₀ w d t p b l o : List ℕ} {at : Place} {turns : ℕ} (x : Between w₀ d₀ t₀ p₀ b₀ l₀ o₀ w d t p b l o at turns) where
+  pub between-next : {w′ d′ t′ p′ b′ l′ o′ : List ℕ} {at′ : Place} → length w′ ≡ length w → length d′ ≡ length d → length t′ ≡ length t → length p′ ≡ length p → length b′ ≡ length b → length l′ ≡ length l → length o′ ≡ length o
+      → Left at′ (countOf (at .run)) (length w) → 0 < turns → Between w₀ d₀ t₀ p₀ b₀ l₀ o₀ w′ d′ t′ p′ b′ l′ o′ at′ (turns - 1)
   between-next kw kd kt kp kb kl ko y h =
       record {
         window-is = kw ∙ x .window-is;
@@ -65,3 +70,8 @@ module _ {w₀ d₀ t₀ p₀ b₀ l₀ o₀ w d t p b l o : List ℕ} {from to 
               out-most = omega (arith, ko, x .lent .out-most);
             };
       }
+
+-- a turn may be said to go on in a larger window
+pub turned-in : (x : Turn) (k n m : ℕ) → n ≤ m → Turned x k n → Turned x k m
+turned-in (turn.Go at) k n m h y = record { from-to = y .from-to; inside = omega (arith, y .inside); sound = y .sound; count-high = y .count-high }
+turned-in turn.Stop k n m h y = tt

@@ -1,10 +1,10 @@
--- `shelf::over` is safe: what is written lies in the buffer. Assumes nothing.
+-- `shelf::turns::over` is safe: what is written lies in the buffer. Assumes nothing.
 use mathlib.Core.Path.{sym}
 use native.Mathlib.Omega.{arith}
 use lib.Seq.{length-take-le}
 use borrow.Author.Needs.{needs}
-use Rattle.shelf.proofs.over.Statement.{statement}
-use Rattle.shelf.proofs.over.Tie as tie
+use Rattle.shelf.proofs.turns.over.Statement.{statement}
+use Rattle.shelf.proofs.turns.over.Tie as tie
 
 at-end-requires : tie.Need-at-end-requires
 at-end-requires c κs = search needs
