@@ -5,12 +5,13 @@ use mathlib.Core.Bool.{false}
 use mathlib.Core.List.{List}
 use native.Mathlib.Omega.{arith}
 use lib.ListN.{length}
+use Rattle.script.specs.Pieces.{mostLine}
 use Rattle.shelf.specs.declared.run.Run.the-variants as run
 use Rattle.shelf.specs.declared.turns.Place.{Place}
 use Rattle.shelf.specs.declared.turns.Turn.{Turn}
 use Rattle.shelf.specs.declared.turns.Turn.the-variants as turn
 use Rattle.shelf.specs.Shelf.{shelf, Lent}
-use Rattle.shelf.specs.Run.{Sound, countOf}
+use Rattle.shelf.specs.Run.{isOver, Sound, countOf}
 use Rattle.shelf.specs.Turns.{Left, Turned}
 
 pub record Between (w₀ d₀ t₀ p₀ b₀ l₀ o₀ w d t p b l o : List ℕ) (at : Place) (turns : ℕ) : Type 0 where
@@ -23,12 +24,14 @@ pub record Between (w₀ d₀ t₀ p₀ b₀ l₀ o₀ w d t p b l o : List ℕ)
   pub out-is : length o ≡ length o₀
   pub from-to : at .from ≤ at .to
   pub inside : at .to ≤ length w
+  pub window-most : mostLine < length w
+  pub going : isOver (at .run) ≡ false
   pub sound : Sound (at .run)
   pub counted : countOf (at .run) + turns < 2 ^ 64
   pub lent : Lent (shelf d t p b l) o
 
-pub between-first : (w d t p b l o : List ℕ) (turns : ℕ) → turns < 2 ^ 64 → Lent (shelf d t p b l) o → Between w d t p b l o w d t p b l o (record { from = 0; to = 0; ended = false; run = run.First }) turns
-between-first w d t p b l o turns h e =
+pub between-first : (w d t p b l o : List ℕ) (turns : ℕ) → turns < 2 ^ 64 → mostLine < length w → Lent (shelf d t p b l) o → Between w d t p b l o w d t p b l o (record { from = 0; to = 0; ended = false; run = run.First }) turns
+between-first w d t p b l o turns h m e =
     record {
       window-is = refl;
       desk-is = refl;
@@ -39,6 +42,8 @@ between-first w d t p b l o turns h e =
       out-is = refl;
       from-to = omega arith;
       inside = omega arith;
+      window-most = m;
+      going = refl;
       sound = tt;
       counted = omega arith;
       lent = e;
@@ -58,6 +63,8 @@ module _ {w₀ d₀ t₀ p₀ b₀ l₀ o₀ w d t p b l o : List ℕ} {at : Pla
         out-is = ko ∙ x .out-is;
         from-to = y .from-to;
         inside = omega (arith, kw, y .inside);
+        window-most = omega (arith, kw, x .window-most);
+        going = y .going;
         sound = y .sound;
         counted = omega (arith, y .count-high, x .counted);
         lent =
@@ -73,5 +80,5 @@ module _ {w₀ d₀ t₀ p₀ b₀ l₀ o₀ w d t p b l o : List ℕ} {at : Pla
 
 -- a turn may be said to go on in a larger window
 pub turned-in : (x : Turn) (k n m : ℕ) → n ≤ m → Turned x k n → Turned x k m
-turned-in (turn.Go at) k n m h y = record { from-to = y .from-to; inside = omega (arith, y .inside); sound = y .sound; count-high = y .count-high }
+turned-in (turn.Go at) k n m h y = record { from-to = y .from-to; inside = omega (arith, y .inside); going = y .going; sound = y .sound; count-high = y .count-high }
 turned-in turn.Stop k n m h y = tt

@@ -1,3 +1,4 @@
 pub mod Steps
 pub mod Frames
+pub mod Long
 pub mod Between

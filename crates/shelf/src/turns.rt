@@ -6,12 +6,14 @@ use libc::STDIN_FILENO;
 use libc::STDOUT_FILENO;
 use script::Next;
 use script::window;
-ghost use Prim.Native.Nat.{_+_, _≤_};
+ghost use Prim.Native.Nat.{_+_, _-_, _≤_, _<_};
 ghost use lib.ListN.{length};
+ghost use Rattle.words.specs.Bytes.{part};
+ghost use Rattle.script.specs.Pieces.{mostLine};
 ghost use Rattle.script.specs.Listing.{mostRow};
 ghost use Rattle.shelf.specs.Shelf.{shelf, Lent};
 ghost use Rattle.shelf.specs.Run.{Sound, countOf};
-ghost use Rattle.shelf.specs.Turns.{Placed, Turned};
+ghost use Rattle.shelf.specs.Turns.{Inside, Placed, Turned, Listed};
 
 // Where the program stands: the unread text is in the window from `from` up to `to`, and `ended` says whether that is all that is left of the script.
 pub struct Place {
@@ -38,10 +40,10 @@ fn fill(window: &mut [u8], from: usize, to: usize) -> usize
     n + io::count(got, &window[n..])
 }
 
-// More of the script is wanted. A window that is full holds a line that is too long to be one that can be read.
+// More of the script is wanted. A window that is full holds the front of a line that is longer than any that can be read.
 fn more(at: Place, window: &mut [u8], out: &mut [u8]) -> Turn
-    requires { ⌜ (at .from ≤ at .to) × (at .to ≤ length (now window)) × Sound (at .run) × (mostRow ≤ length (now out)) ⌝ }
-    ensures { λ r. ⌜ Turned r (countOf (at .run)) (length (now (window .entry))) ⌝ }
+    requires { ⌜ Inside at (now window) × Sound (at .run) × (mostRow ≤ length (now out)) ⌝ }
+    ensures { λ r. ⌜ Turned r (countOf (at .run)) (length (now (window .entry))) × Listed r (at .run) (part (now (window .entry)) (at .from) (at .to - at .from)) (now (out .entry)) (now (out .exit)) ⌝ }
 {
     let n = at.to - at.from;
     if n == window.len() {
@@ -166,7 +168,7 @@ pub fn run_script(
     leaves: &mut [u16],
     out: &mut [u8],
 )
-    requires { ⌜ Lent (shelf (now desk) (now tree) (now path) (now «record») (now leaves)) (now out) ⌝ }
+    requires { ⌜ Lent (shelf (now desk) (now tree) (now path) (now «record») (now leaves)) (now out) × (mostLine < length (now window)) ⌝ }
 {
     let mut at = Place {
         from: 0,

@@ -86,7 +86,8 @@ returns-2 c =
     let t = k .0 .1 .1 .1 .0 in
     let i = c .before .before .before .before .before .before .before .before .before .before .before .before .before .before .before .before .before .before .before .before .lay-text .ensures ∙ ap recordOf (part-tail xs t (length xs - t) (omega (arith, request-fits xs _ _ _ _ e .inside))) in
     let q = c .before .before .before .before .before .before .before .before .before .before .before .before .before .answer in
-    request-said (a .store) (a .count) xs (now (a .desk)) (now (a .tree)) (now (a .path)) (now (a .«record»)) _ _ _ _ t (q .result) _ e i (q .ensures) (c .before .before .put-row .ensures .0) (c .before .before .put-row .ensures .1)
+    let o = q .last .1 .1 .1 .1 in
+    request-said (a .store) (a .count) xs (now (a .desk)) (now (a .tree)) (now (a .path)) (now (a .«record»)) _ _ _ _ t (q .result) (shelf (o .0) (o .1 .0) (o .1 .1 .0) (o .1 .1 .1 .0) []) e i (q .ensures) (c .before .before .put-row .ensures .0) (c .before .before .put-row .ensures .1)
 
 pub ready-spec : {M : Type 1} → statement M
 ready-spec =

@@ -81,7 +81,7 @@ same-length-12 : tie.Need-same-length-12
 same-length-12 c = search needs
 
 returns-2 : tie.Need-returns-2
-returns-2 c = turned-in (c .go-on .result) _ _ _ (c .before .before .before .before .before .before .before .before .before .before .before .before .before .before .before .before .before .before .before .before .before .before .before .before .before .before .before .before .before .before .before .pre .3 .inside) (c .go-on .ensures)
+returns-2 c = turned-in (c .go-on .result) _ _ _ (c .before .before .before .before .before .before .before .before .before .before .before .before .before .before .before .before .before .before .before .before .before .before .before .before .before .before .before .before .before .before .before .pre .3 .inside .inside) (c .go-on .ensures)
 
 pub line-spec : {M : Type 1} → statement M
 line-spec =

@@ -1,7 +1,12 @@
--- `shelf::turns::more` meets its contract: the text is at the front, and ends within the window. Assumes nothing.
+-- `shelf::turns::more` meets its contract: the text is at the front, and ends within the window; a text that fills the window is too long. Assumes nothing.
+use Prim.Native.Nat.{_-_}
 use mathlib.Core.Path.{sym}
 use native.Mathlib.Omega.{arith}
+use denote.Ref.{now}
 use lib.Seq.{length-take-le}
+use Rattle.words.specs.Bytes.{part}
+use Rattle.words.proofs.Splice.{length-part}
+use Rattle.shelf.proofs.Long.{long-ends}
 use borrow.Author.Needs.{needs}
 use Rattle.shelf.proofs.turns.more.Statement.{statement}
 use Rattle.shelf.proofs.turns.more.Tie as tie
@@ -25,7 +30,12 @@ same-length : tie.Need-same-length
 same-length c = search needs
 
 returns : tie.Need-returns
-returns c = search needs
+returns c =
+    let a = c .before .before .before .before .before .before .before .before .before .before .args in
+    let p = c .before .before .before .before .before .before .before .before .before .before .pre in
+    let n = a .at .to - a .at .from in
+    let l = length-part (now (a .window)) (a .at .from) n (omega (arith, p .0 .from-to, p .0 .inside)) in
+    (tt, λ rest sh. long-ends (a .at .run) (part (now (a .window)) (a .at .from) n) rest sh (now (a .out)) _ (omega (arith, l, p .0 .window-most, c .before .before .before .before .before .before .if1 .taken)) (p .1) (p .0 .going) (c .before .before .before .before .bad .ensures .1 .is))
 
 fill-requires : tie.Need-fill-requires
 fill-requires c κs = search needs
@@ -34,7 +44,9 @@ same-length-2 : tie.Need-same-length-2
 same-length-2 c = search needs
 
 returns-2 : tie.Need-returns-2
-returns-2 c = search needs
+returns-2 c =
+    let p = c .before .before .before .before .before .before .before .before .pre in
+    (record { from-to = omega arith; inside = c .before .before .fill .ensures; going = p .0 .going; sound = p .1; count-high = omega arith }, tt)
 
 pub more-spec : {M : Type 1} → statement M
 more-spec =

@@ -22,14 +22,13 @@ abbrev μ-loop : tie.MeasureT-loop
 loop-holds : tie.Need-loop-holds Inv-loop μ-loop
 loop-holds c =
     let a = c .before .before .before .before .before .before .before .args in
-    between-first (now (a .window)) (now (a .desk)) (now (a .tree)) (now (a .path)) (now (a .«record»)) (now (a .leaves)) (now (a .out)) 18446744073709551615 (omega arith) (c .before .before .before .before .before .before .before .pre)
+    between-first (now (a .window)) (now (a .desk)) (now (a .tree)) (now (a .path)) (now (a .«record»)) (now (a .leaves)) (now (a .out)) 18446744073709551615 (omega arith) (c .before .before .before .before .before .before .before .pre .1) (c .before .before .before .before .before .before .before .pre .0)
 
 take-turn-requires : tie.Need-take-turn-requires Inv-loop μ-loop
 take-turn-requires c κs =
     let x = c .before .before .before .before .before .before .before .before .loop .inv in
     record {
-      from-to = x .from-to;
-      inside = x .inside;
+      inside = record { from-to = x .from-to; inside = x .inside; window-most = x .window-most; going = x .going };
       runs = record { sound = x .sound; count-high = omega (arith, x .counted, c .before .before .before .before .before .before .before .loop-test .taken); lent = x .lent };
     }
 
