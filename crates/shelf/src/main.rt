@@ -5,7 +5,6 @@ mod request;
 mod run;
 mod turns;
 
-use libc::STDOUT_FILENO;
 use script::listing;
 use sizes::Sizes;
 
@@ -18,7 +17,7 @@ fn main() {
     let mut leaves = [0u16; Sizes::MOST_IDS];
     let mut out = [0u8; listing::MOST_ROW];
     let n = listing::header(&mut out);
-    if !io::write_all(STDOUT_FILENO, &out[..n]) {
+    if !turns::write_out(&out[..n]) {
         return;
     }
     turns::run_script(

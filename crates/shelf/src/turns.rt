@@ -2,6 +2,7 @@
 // A run ends where the script does, at a line that can't be read, at a refused format, or where the output can't be written.
 use crate::run;
 use crate::run::Run;
+use libc::STDERR_FILENO;
 use libc::STDIN_FILENO;
 use libc::STDOUT_FILENO;
 use script::Next;
@@ -29,7 +30,16 @@ pub enum Turn {
     Stop,
 }
 
-// Reads on behind the unread text, which goes to the window's front, and answers where it then ends.
+// Writes a part of the listing, whole. Where that can't be done no line of the listing can say so, and the user is told on standard error.
+pub fn write_out(text: &[u8]) -> bool {
+    let written = io::write_all(STDOUT_FILENO, text);
+    if !written {
+        io::write_all(STDERR_FILENO, b"shelf: the listing can't be written\n");
+    }
+    written
+}
+
+// Reads on behind the unread text, which goes to the window's front, and answers where it then ends. A script that can't be read on ends there.
 fn fill(window: &mut [u8], from: usize, to: usize) -> usize
     requires { ⌜ (from ≤ to) × (to ≤ length (now window)) ⌝ }
     ensures { λ r. ⌜ r ≤ length (now (window .entry)) ⌝ }
@@ -37,6 +47,9 @@ fn fill(window: &mut [u8], from: usize, to: usize) -> usize
     window::shift(window, from, to);
     let n = to - from;
     let got = libc::read(STDIN_FILENO, &mut window[n..]);
+    if got < 0 {
+        io::write_all(STDERR_FILENO, b"shelf: the script can't be read on\n");
+    }
     n + io::count(got, &window[n..])
 }
 
@@ -49,7 +62,7 @@ fn more(at: Place, window: &mut [u8], out: &mut [u8]) -> Turn
     if n == window.len() {
         let step = run::bad(out);
         let n = step.written;
-        io::write_all(STDOUT_FILENO, &out[..n]);
+        write_out(&out[..n]);
         return Turn::Stop;
     }
     let end = fill(window, at.from, at.to);
@@ -67,7 +80,7 @@ fn over(run: Run, out: &mut [u8])
     requires { ⌜ mostRow ≤ length (now out) ⌝ }
 {
     let n = run::at_end(run, out);
-    io::write_all(STDOUT_FILENO, &out[..n]);
+    write_out(&out[..n]);
 }
 
 // After a line the text is read on from `next`, unless the run is over.
@@ -115,7 +128,7 @@ fn line(
         out,
     );
     let n = step.written;
-    if !io::write_all(STDOUT_FILENO, &out[..n]) {
+    if !write_out(&out[..n]) {
         return Turn::Stop;
     }
     let after = step.run;

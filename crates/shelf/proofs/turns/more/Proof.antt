@@ -17,14 +17,14 @@ sub-n c = search needs
 bad-requires : tie.Need-bad-requires
 bad-requires c κs = search needs
 
-slice-reshare-prefix-write-all : tie.Need-slice-reshare-prefix-write-all
-slice-reshare-prefix-write-all c = search needs
+slice-reshare-prefix-write-out : tie.Need-slice-reshare-prefix-write-out
+slice-reshare-prefix-write-out c = search needs
 
-slice-aggregate-write-all : tie.Need-slice-aggregate-write-all
-slice-aggregate-write-all c = sym (length-take-le (c .before .before .before .bad .result .written) (c .before .before .before .bad .last .0) (omega (arith, c .before .before .before .bad .ensures .2, c .before .before .before .bad .kept .0)))
+slice-aggregate-write-out : tie.Need-slice-aggregate-write-out
+slice-aggregate-write-out c = sym (length-take-le (c .before .before .before .bad .result .written) (c .before .before .before .bad .last .0) (omega (arith, c .before .before .before .bad .ensures .2, c .before .before .before .bad .kept .0)))
 
-write-all-requires : tie.Need-write-all-requires
-write-all-requires c κs = search needs
+write-out-requires : tie.Need-write-out-requires
+write-out-requires c κs = search needs
 
 same-length : tie.Need-same-length
 same-length c = search needs
@@ -54,9 +54,9 @@ more-spec =
     (tie.spec
     sub-n
     bad-requires
-    slice-reshare-prefix-write-all
-    slice-aggregate-write-all
-    write-all-requires
+    slice-reshare-prefix-write-out
+    slice-aggregate-write-out
+    write-out-requires
     same-length
     returns
     fill-requires

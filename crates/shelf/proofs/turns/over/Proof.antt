@@ -9,14 +9,14 @@ use Rattle.shelf.proofs.turns.over.Tie as tie
 at-end-requires : tie.Need-at-end-requires
 at-end-requires c κs = search needs
 
-slice-reshare-prefix-write-all : tie.Need-slice-reshare-prefix-write-all
-slice-reshare-prefix-write-all c = search needs
+slice-reshare-prefix-write-out : tie.Need-slice-reshare-prefix-write-out
+slice-reshare-prefix-write-out c = search needs
 
-slice-aggregate-write-all : tie.Need-slice-aggregate-write-all
-slice-aggregate-write-all c = sym (length-take-le (c .before .before .before .at-end .result) (c .before .before .before .at-end .last .1 .0) (omega (arith, c .before .before .before .at-end .ensures .1, c .before .before .before .at-end .kept .1 .0, c .before .before .before .before .before .before .pre)))
+slice-aggregate-write-out : tie.Need-slice-aggregate-write-out
+slice-aggregate-write-out c = sym (length-take-le (c .before .before .before .at-end .result) (c .before .before .before .at-end .last .1 .0) (omega (arith, c .before .before .before .at-end .ensures .1, c .before .before .before .at-end .kept .1 .0, c .before .before .before .before .before .before .pre)))
 
-write-all-requires : tie.Need-write-all-requires
-write-all-requires c κs = search needs
+write-out-requires : tie.Need-write-out-requires
+write-out-requires c κs = search needs
 
 same-length : tie.Need-same-length
 same-length c = search needs
@@ -29,8 +29,8 @@ over-spec =
     tie.close
     (tie.spec
     at-end-requires
-    slice-reshare-prefix-write-all
-    slice-aggregate-write-all
-    write-all-requires
+    slice-reshare-prefix-write-out
+    slice-aggregate-write-out
+    write-out-requires
     same-length
     returns)
