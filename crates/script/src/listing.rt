@@ -20,6 +20,7 @@ pub const MOST_DECIMAL: usize = 20;
 // The most bytes of a line of the listing.
 pub const MOST_ROW: usize = 141;
 
+// Bytes as they are: the fixed strings, and a record's text.
 pub fn put(out: &mut [u8], at: usize, bytes: &[u8]) -> usize
     requires { ⌜ at + length (now bytes) ≤ length (now out) ⌝ }
     ensures { λ r. ⌜ Wrote (now (out .entry)) at (now (bytes .entry)) (now (out .exit)) r ⌝ }
@@ -45,6 +46,7 @@ pub fn decimal(out: &mut [u8], at: usize, x: u64) -> usize
     put(out, at, &text[i..MOST_DECIMAL])
 }
 
+// A request's kind, with the space after it.
 fn put_kind(out: &mut [u8], at: usize, kind: Kind) -> usize
     requires { ⌜ at + length writeWord ≤ length (now out) ⌝ }
     ensures { λ r. ⌜ Wrote (now (out .entry)) at (kindText kind) (now (out .exit)) r × (r ≤ at + length writeWord) ⌝ }
@@ -55,6 +57,7 @@ fn put_kind(out: &mut [u8], at: usize, kind: Kind) -> usize
     }
 }
 
+// The leaf asked for; nothing was asked where the ask itself was refused.
 fn put_leaf(out: &mut [u8], at: usize, leaf: Shown) -> usize
     requires { ⌜ at + mostDecimal ≤ length (now out) ⌝ }
     ensures { λ r. ⌜ Wrote (now (out .entry)) at (leafText leaf) (now (out .exit)) r × (r ≤ at + mostDecimal) ⌝ }
@@ -73,6 +76,7 @@ fn put_refused(out: &mut [u8], at: usize, r: Refusal) -> usize
     decimal(out, next, sizes::number(r) as u64)
 }
 
+// A text has no zeros, so that what stands before the first one is the text.
 fn put_record(out: &mut [u8], at: usize, record: &[u8]) -> usize
     requires { ⌜ (at + length recordWord + recordLen ≤ length (now out)) × (length (now «record») ≡ recordLen) ⌝ }
     ensures { λ n. ⌜ Wrote (now (out .entry)) at (spec.recordText (now («record» .entry))) (now (out .exit)) n × (n ≤ at + length recordWord + recordLen) ⌝ }
@@ -126,6 +130,7 @@ pub fn row(
     put(out, at, b"\n")
 }
 
+// The line that always comes first.
 pub fn header(out: &mut [u8]) -> usize
     requires { ⌜ mostRow ≤ length (now out) ⌝ }
     ensures { λ r. ⌜ Wrote (now (out .entry)) 0 headerLine (now (out .exit)) r ⌝ }

@@ -36,7 +36,7 @@ fn rest_good(kind: Kind, rest: &[u8]) -> bool
     }
 }
 
-// The place after one byte, if there is one.
+// Where the text begins: after the space at `at`. At the line's end there is none, and the text is empty.
 fn past(at: usize, end: usize) -> usize
     requires { ⌜ at ≤ end ⌝ }
     ensures { λ r. ⌜ r ≡ end - (end - at - 1) ⌝ }

@@ -34,7 +34,7 @@ fn answer_of(finished: Finished) -> Answer
     }
 }
 
-// The line of request `n`.
+// The line of request `n`. What stands in `record` is listed only where a record was answered.
 fn put_row(out: &mut [u8], n: u64, kind: Kind, id: u16, answered: Answered, record: &[u8]) -> usize
     requires { ⌜ (mostRow ≤ length (now out)) × (length (now «record») ≡ recordLen) ⌝ }
     ensures { λ r. ⌜ Wrote (now (out .entry)) 0 (rowFor answered n kind id (now («record» .entry))) (now (out .exit)) r × (r ≤ mostRow) ⌝ }

@@ -71,6 +71,7 @@ pub fn take_line(
     }
 }
 
+// Whether no line counts any more.
 pub fn is_over(run: Run) -> bool
     ensures { λ r. ⌜ r ≡ isOver run ⌝ }
 {
