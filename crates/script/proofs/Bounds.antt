@@ -1,7 +1,7 @@
 -- What a line that can be read is bounded by: its numbers, its text, its length. So no line that can be read is longer than a window of 20,485 bytes,
 -- and a longer one is bad without being read to its end. Assumes nothing.
 use Prim.Native.Nat.{ℕ, zero, suc, _+_, _*_, _-_, _≤_, _<_}
-use mathlib.Core.Path.{_≡_, refl}
+use mathlib.Core.Path.{_≡_, refl, ap}
 use mathlib.Core.Bool.{Bool, true, false, cond, _&&_}
 use mathlib.Core.List.{List, [], _∷_}
 use native.Mathlib.Omega.{arith}
@@ -16,6 +16,7 @@ use Rattle.script.specs.declared.Number.{Number}
 use Rattle.script.specs.declared.Number.the-variants as number
 use Rattle.script.specs.declared.Line.{Line}
 use Rattle.script.specs.declared.Line.the-variants as line
+use Rattle.script.specs.declared.Store.{Store}
 use Rattle.script.specs.declared.First.{First}
 use Rattle.script.specs.declared.First.the-variants as first
 use Rattle.script.specs.Text.{space, storeWord, startWord, writeWord, readWord}
@@ -105,35 +106,39 @@ request-fits xs k id leaf text e =
 
 -- ---- the first line
 
-store-is : (t : Bool) (a b c d l z s n : ℕ) → cond t (first.Store a b c d) first.Bad ≡ first.Store l z s n → (t ≡ true) × (a ≡ l) × (d ≡ n)
-store-is true a b c d l z s n e = (refl, cc, cc)
-store-is false a b c d l z s n e = absurd (let z : _≡_ {A = ℕ} 0 1 = cc in omega arith)
+store-is : (t : Bool) (a x : Store) → cond t (first.Is a) first.Bad ≡ first.Is x → (t ≡ true) × (a ≡ x)
+store-is true a x e = (refl, cc)
+store-is false a x e = absurd (let z : _≡_ {A = ℕ} 0 1 = cc in omega arith)
 
-bad-store : {A : Type 0} (l z s n : ℕ) → first.Bad ≡ first.Store l z s n → A
-bad-store l z s n e = absurd (let z : _≡_ {A = ℕ} 0 1 = cc in omega arith)
+bad-store : {A : Type 0} (x : Store) → first.Bad ≡ first.Is x → A
+bad-store x e = absurd (let z : _≡_ {A = ℕ} 0 1 = cc in omega arith)
 
-pub record Stored (xs : List ℕ) (l n : ℕ) : Type 0 where
-  pub height-high : l ≤ mostShelfHeight
-  pub ids-high : n ≤ mostIds
+pub record Stored (xs : List ℕ) (x : Store) : Type 0 where
+  pub height-high : x .height ≤ mostShelfHeight
+  pub ids-high : x .ids ≤ mostIds
   pub line-most : length xs ≤ 25
 
-pub store-fits : (xs : List ℕ) (l z s n : ℕ) → storeOf xs ≡ first.Store l z s n → Stored xs l n
-store-fits xs l z s n e =
+pub store-fits : (xs : List ℕ) (x : Store) → storeOf xs ≡ first.Is x → Stored xs x
+store-fits xs x e =
     let v = numbersIn 6 xs in
     let r = restIn 6 4 xs in
     let t = begins xs storeWord && areThere 4 v && eqb (length r) 0 in
     byCases t
     (λ h.
-    let q : storeWith (values 4 v) ≡ first.Store l z s n = rw h at e in
-    let p = store-is (leb (getD (values 4 v) 0 0) mostShelfHeight && leb (getD (values 4 v) 2 0) mostByte) (getD (values 4 v) 0 0) _ _ (getD (values 4 v) 3 0) l z s n q in
+    let q : storeWith (values 4 v) ≡ first.Is x = rw h at e in
+    let p = store-is (leb (getD (values 4 v) 0 0) mostShelfHeight && leb (getD (values 4 v) 2 0) mostByte) _ x q in
     let a = leb-true (getD (values 4 v) 0 0) mostShelfHeight (and-left _ (leb (getD (values 4 v) 2 0) mostByte) (p .0)) in
     let b = values-low 4 v 3 in
     let c = eqb-true (length r) 0 (and-right (begins xs storeWord && areThere 4 v) (eqb (length r) 0) h) in
     let d = length-drop (valuesLen 4 v) v in
     let f = length-drop 5 xs in
     let g = valuesLen-most 4 v in
-    record { height-high = omega (arith, p .1); ids-high = omega (arith, p .2); line-most = omega arith })
-    (λ h. bad-store l z s n (rw h at e))
+    record {
+      height-high = omega (arith, ap (λ (y : Store). y .height) (p .1));
+      ids-high = omega (arith, ap (λ (y : Store). y .ids) (p .1));
+      line-most = omega arith;
+    })
+    (λ h. bad-store x (rw h at e))
 
 -- ---- the second line
 
@@ -163,7 +168,7 @@ too-long xs h =
     }
   where
     not-store : (x : First) → storeOf xs ≡ x → x ≡ first.Bad
-    not-store (first.Store l z s n) e = absurd (omega (arith, store-fits xs l z s n e .line-most))
+    not-store (first.Is x) e = absurd (omega (arith, store-fits xs x e .line-most))
     not-store first.Bad e = refl
 
     not-request : (x : Line) → requestOf xs ≡ x → x ≡ line.Bad

@@ -144,7 +144,7 @@ mostByte = 255
 
 -- a Z above a byte is out of range, as 255 is
 abbrev pub storeBy : ℕ → ℕ → ℕ → ℕ → First
-storeBy l z s n = cond (leb l mostShelfHeight && leb s mostByte) (first.Store l (min z mostByte) s n) first.Bad
+storeBy l z s n = cond (leb l mostShelfHeight && leb s mostByte) (first.Is (record { height = l; slots = min z mostByte; room = s; ids = n })) first.Bad
 
 abbrev pub storeWith : List ℕ → First
 storeWith vs = storeBy (getD vs 0 0) (getD vs 1 0) (getD vs 2 0) (getD vs 3 0)

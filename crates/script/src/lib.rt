@@ -3,8 +3,11 @@
 use desk::Kind;
 use sizes::Refusal;
 
+pub mod bytes;
+pub mod head;
 pub mod listing;
-pub mod reading;
+pub mod numbers;
+pub mod request;
 pub mod window;
 
 // A number of the script: its value, and how many digits it has.
@@ -30,14 +33,17 @@ pub enum Line {
     Bad,
 }
 
-// The first line: L, Z, S, N.
+// What the first line asks for: L, Z, S, N.
+pub struct Store {
+    pub height: u8,
+    pub slots: u8,
+    pub room: u8,
+    pub ids: u16,
+}
+
+// The first line.
 pub enum First {
-    Store {
-        height: u8,
-        slots: u8,
-        room: u8,
-        ids: u16,
-    },
+    Is(Store),
     Bad,
 }
 

@@ -1,13 +1,13 @@
 // The listing's lines, written into a buffer from a place on; each function answers with the place after what it wrote. Assumes nothing.
 use crate::Answer;
 use crate::Shown;
-use crate::reading;
+use crate::bytes;
+use crate::numbers;
 use desk::Kind;
 use sizes::Refusal;
 ghost use mathlib.Core.Path.{_≡_};
 ghost use Prim.Native.Nat.{_+_, _≤_};
 ghost use lib.ListN.{length};
-ghost use Rattle.sizes.specs.Refusals.{numberOf};
 ghost use Rattle.sizes.specs.Sizes.{recordLen};
 ghost use Rattle.script.specs.Text.{writeWord, refusedWord, recordWord, headerLine, badLine};
 ghost use Rattle.script.specs.Listing as spec;
@@ -19,6 +19,7 @@ pub const MOST_DECIMAL: usize = 20;
 // The most bytes of a line of the listing.
 pub const MOST_ROW: usize = 141;
 
+// Bytes as they are: the fixed strings, and a record's text.
 pub fn put(out: &mut [u8], at: usize, bytes: &[u8]) -> usize
     requires { ⌜ at + length (now bytes) ≤ length (now out) ⌝ }
     ensures { λ r. ⌜ Wrote (now (out .entry)) at (now (bytes .entry)) (now (out .exit)) r ⌝ }
@@ -35,15 +36,16 @@ pub fn decimal(out: &mut [u8], at: usize, x: u64) -> usize
     let mut text = [0u8; MOST_DECIMAL];
     let mut i = MOST_DECIMAL - 1;
     let mut y = x;
-    while reading::TEN <= y {
-        text[i] = reading::ZERO + (y % reading::TEN) as u8;
-        y = y / reading::TEN;
+    while numbers::TEN <= y {
+        text[i] = numbers::ZERO + (y % numbers::TEN) as u8;
+        y = y / numbers::TEN;
         i -= 1;
     }
-    text[i] = reading::ZERO + y as u8;
+    text[i] = numbers::ZERO + y as u8;
     put(out, at, &text[i..MOST_DECIMAL])
 }
 
+// A request's kind, with the space after it.
 fn put_kind(out: &mut [u8], at: usize, kind: Kind) -> usize
     requires { ⌜ at + length writeWord ≤ length (now out) ⌝ }
     ensures { λ r. ⌜ Wrote (now (out .entry)) at (kindText kind) (now (out .exit)) r × (r ≤ at + length writeWord) ⌝ }
@@ -54,6 +56,7 @@ fn put_kind(out: &mut [u8], at: usize, kind: Kind) -> usize
     }
 }
 
+// The leaf asked for; nothing was asked where the ask itself was refused.
 fn put_leaf(out: &mut [u8], at: usize, leaf: Shown) -> usize
     requires { ⌜ at + mostDecimal ≤ length (now out) ⌝ }
     ensures { λ r. ⌜ Wrote (now (out .entry)) at (leafText leaf) (now (out .exit)) r × (r ≤ at + mostDecimal) ⌝ }
@@ -72,12 +75,13 @@ fn put_refused(out: &mut [u8], at: usize, r: Refusal) -> usize
     decimal(out, next, sizes::number(r) as u64)
 }
 
+// A text has no zeros, so that what stands before the first one is the text.
 fn put_record(out: &mut [u8], at: usize, record: &[u8]) -> usize
     requires { ⌜ (at + length recordWord + recordLen ≤ length (now out)) × (length (now «record») ≡ recordLen) ⌝ }
     ensures { λ n. ⌜ Wrote (now (out .entry)) at (spec.recordText (now («record» .entry))) (now (out .exit)) n × (n ≤ at + length recordWord + recordLen) ⌝ }
 {
     let next = put(out, at, b"record ");
-    let n = reading::before(record, 0);
+    let n = bytes::before(record, 0);
     put(out, next, &record[..n])
 }
 
@@ -125,6 +129,7 @@ pub fn row(
     put(out, at, b"\n")
 }
 
+// The line that always comes first.
 pub fn header(out: &mut [u8]) -> usize
     requires { ⌜ mostRow ≤ length (now out) ⌝ }
     ensures { λ r. ⌜ Wrote (now (out .entry)) 0 headerLine (now (out .exit)) r ⌝ }

@@ -1,6 +1,6 @@
 // A script that is read in pieces: the unread text stands in a window from `from` up to `to`. Assumes nothing.
 use crate::Next;
-use crate::reading;
+use crate::bytes;
 ghost use mathlib.Core.Path.{_≡_};
 ghost use Prim.Native.Nat.{_-_, _≤_};
 ghost use lib.ListN.{length};
@@ -12,7 +12,7 @@ pub fn next_line(window: &[u8], from: usize, to: usize, ended: bool) -> Next
     requires { ⌜ (from ≤ to) × (to ≤ length (now window)) ⌝ }
     ensures { λ r. ⌜ (r ≡ nextOf from (part (now (window .entry)) from (to - from)) ended) × Ahead from to r ⌝ }
 {
-    let end = from + reading::before(&window[from..to], reading::LINE_FEED);
+    let end = from + bytes::before(&window[from..to], bytes::LINE_FEED);
     if end < to {
         return Next::Line { end, next: end + 1 };
     }

@@ -1,1 +1,3 @@
+pub mod Shelf
 pub mod Run
+pub mod Turns

@@ -18,11 +18,11 @@ header-requires c κs = search needs
 array-share-prefix-out : tie.Need-array-share-prefix-out
 array-share-prefix-out c = search needs
 
-slice-aggregate-write-all : tie.Need-slice-aggregate-write-all
-slice-aggregate-write-all c = sym (length-take-le (c .before .before .header .result) (c .before .before .header .last .0) (omega (arith, c .before .before .header .ensures .next-is, c .before .before .header .kept .0)))
+slice-aggregate-write-out : tie.Need-slice-aggregate-write-out
+slice-aggregate-write-out c = sym (length-take-le (c .before .before .header .result) (c .before .before .header .last .0) (omega (arith, c .before .before .header .ensures .next-is, c .before .before .header .kept .0)))
 
-write-all-requires : tie.Need-write-all-requires
-write-all-requires c κs = search needs
+write-out-requires : tie.Need-write-out-requires
+write-out-requires c κs = search needs
 
 returns : tie.Need-returns
 returns c = search needs
@@ -62,8 +62,8 @@ main-spec =
     slice-aggregate-header
     header-requires
     array-share-prefix-out
-    slice-aggregate-write-all
-    write-all-requires
+    slice-aggregate-write-out
+    write-out-requires
     returns
     slice-aggregate-run-script
     slice-aggregate-run-script-2

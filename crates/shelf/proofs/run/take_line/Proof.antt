@@ -5,7 +5,8 @@ use native.Mathlib.Omega.{arith}
 use denote.Ref.{now}
 use Rattle.script.specs.Lines.{storeOf, startGood, requestOf}
 use Rattle.shelf.specs.declared.run.Run.{Run}
-use Rattle.shelf.specs.Run.{shelf, stepOf, Sound, countOf}
+use Rattle.shelf.specs.Shelf.{shelf}
+use Rattle.shelf.specs.Run.{stepOf, Sound, countOf}
 use Rattle.shelf.proofs.Steps.{became, silent}
 use Rattle.shelf.proofs.Frames.{first-frame, second-frame, request-frame}
 use borrow.Author.Needs.{needs}
@@ -25,7 +26,7 @@ second-requires : tie.Need-second-requires
 second-requires c κs =
     let p = c .before .before .before .before .before .before .before .before .before .before .before .before .before .pre in
     let s = subst Sound (c .before .before .before .before .run .given .1) (p .sound) in
-    record { ids-high = s .1; desk-most = p .lent .desk-most; leaves-most = p .lent .leaves-most; out-most = p .lent .out-most }
+    record { ids-high = s .ids-high; desk-most = p .lent .desk-most; leaves-most = p .lent .leaves-most; out-most = p .lent .out-most }
 
 enum-known-run-2 : tie.Need-enum-known-run-2
 enum-known-run-2 c = search needs
@@ -35,13 +36,8 @@ ready-requires c κs =
     let p = c .before .before .before .before .before .before .before .before .before .before .before .before .before .before .before .pre in
     let s = subst Sound (c .before .before .before .before .before .before .run2 .given .1) (p .sound) in
     record {
-      range = s .0;
-      height-high = s .1;
-      ids-high = s .2;
+      holds = record { roomy = s; desk-most = p .lent .desk-most; tree-most = p .lent .tree-most; path-most = p .lent .path-most };
       count-high = subst (λ (r : Run). countOf r + 1 < 2 ^ 64) (c .before .before .before .before .before .before .run2 .given .1) (p .count-high);
-      desk-most = p .lent .desk-most;
-      tree-most = p .lent .tree-most;
-      path-most = p .lent .path-most;
       buffer-is = p .lent .buffer-is;
       out-most = p .lent .out-most;
     }
@@ -74,7 +70,7 @@ returns-2 c =
     let xs = now (a .line) in
     let h = shelf (now (a .desk)) (now (a .tree)) (now (a .path)) (now (a .«record»)) (now (a .leaves)) in
     let g = c .before .before .before .before .before .before .before .before .before .before .before .run .given in
-    became (ap (λ (r : Run). stepOf r xs h) (g .1)) (second-frame (now (a .tree)) (now (a .path)) (now (a .«record»)) (startGood (g .0 .1 .1 .1 .0) xs) (g .0 .0) (g .0 .1 .0) (g .0 .1 .1 .0) (g .0 .1 .1 .1 .0) xs (now (a .desk)) (now (a .leaves)) (c .before .before .before .before .before .before .second .ensures))
+    became (ap (λ (r : Run). stepOf r xs h) (g .1)) (second-frame (now (a .tree)) (now (a .path)) (now (a .«record»)) (startGood (g .0 .0 .ids) xs) (g .0 .0) xs (now (a .desk)) (now (a .leaves)) (c .before .before .before .before .before .before .second .ensures))
 
 same-length-5 : tie.Need-same-length-5
 same-length-5 c = search needs
@@ -97,14 +93,14 @@ returns-3 c =
     let xs = now (a .line) in
     let h = shelf (now (a .desk)) (now (a .tree)) (now (a .path)) (now (a .«record»)) (now (a .leaves)) in
     let g = c .before .before .before .before .before .before .before .before .before .before .before .before .before .before .before .before .before .run2 .given in
-    became (ap (λ (r : Run). stepOf r xs h) (g .1)) (request-frame (requestOf xs) (g .0 .0) (g .0 .1 .0) (g .0 .1 .1 .0) (g .0 .1 .1 .1 .0) (g .0 .1 .1 .1 .1 .0) xs (now (a .desk)) (now (a .tree)) (now (a .path)) (now (a .«record»)) (now (a .leaves)) (c .before .before .before .before .before .before .before .before .before .before .ready .ensures))
+    became (ap (λ (r : Run). stepOf r xs h) (g .1)) (request-frame (requestOf xs) (g .0 .0) (g .0 .1 .0) xs (now (a .desk)) (now (a .tree)) (now (a .path)) (now (a .«record»)) (now (a .leaves)) (c .before .before .before .before .before .before .before .before .before .before .ready .ensures))
 
 returns-4 : tie.Need-returns-4
 returns-4 c =
     let a = c .before .before .before .before .before .before .before .before .before .args in
     let xs = now (a .line) in
     let h = shelf (now (a .desk)) (now (a .tree)) (now (a .path)) (now (a .«record»)) (now (a .leaves)) in
-    became (ap (λ (r : Run). stepOf r xs h) (c .enum-told2 .given .1)) (record { run-is = refl; shelf-is = refl; wrote = silent (now (a .out)); most = omega arith })
+    became {sh = h} (ap (λ (r : Run). stepOf r xs h) (c .enum-told2 .given .1)) (record { run-is = refl; shelf-is = refl {a = h}; wrote = silent (now (a .out)); most = omega arith })
 
 pub take-line-spec : {M : Type 1} → statement M
 take-line-spec =
