@@ -24,6 +24,7 @@ use Rattle.formats.proofs.Passed.{format-spares}
 use Rattle.store.specs.declared.Finished.the-variants as finished
 use Rattle.store.specs.Steps.{answerFor, wasMarked}
 use Rattle.store.specs.Finish.{finishRows, finishChecked, finishedOr, finishOf, finishedValue}
+use Rattle.requests.specs.Request.{requestOf}
 use Rattle.promises.specs.Stores.{ours, Start, formatFor}
 use Rattle.promises.specs.DemandOne.{OnlyStatus, ByRows, One, DemandOne}
 use Rattle.promises.proofs.Rows.{reads}
@@ -50,7 +51,7 @@ only-status Forged desk = (λ h. absurd (omega arith), λ h. refl)
 only-status Worn desk = (λ h. absurd (omega arith), λ h. refl)
 only-status Full desk = (λ h. absurd (omega arith), λ h. refl)
 
-pub once : {R : Type 0} (determined : R) → One determined
+once : {R : Type 0} (determined : R) → One determined
 once determined r r′ p q = p ∙ sym q
 
 -- ---- entry by entry
@@ -121,6 +122,7 @@ demand-one m =
       put-by-rows = tree-read;
       put-refuses = λ s leaf tree path q h. rw h (refl, refl);
       put-once = λ s leaf tree path. once (putOf s leaf tree path);
+      request-once = λ desk tree path buffer kind id leaf. once (requestOf desk tree path buffer kind id leaf);
       good-once = λ desk. once (goodDesk desk);
       digest-once = λ text. once (m .digest text);
       cipher-once = λ key nonce text. once (m .cipher key nonce text);

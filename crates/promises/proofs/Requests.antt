@@ -36,7 +36,7 @@ use Rattle.promises.specs.Steps.{State, begin, afterAsk, afterFinish}
 use Rattle.promises.specs.Trees.{TreeState, Turn, asking, putIf, turn, turns, TreeReached, fetchedBy, TreeKept}
 use Rattle.promises.specs.Requests.{asRequest, twoTurns, requestFor, AsTurns, WholeRequests}
 use Rattle.promises.proofs.Answers.{leaf-asked}
-use Rattle.promises.proofs.One.{once, demand-one}
+use Rattle.promises.proofs.One.{demand-one}
 use Rattle.promises.proofs.TreeHolds.{fits-checked}
 use Rattle.promises.proofs.Trees.{Both, range, leaf-low, reached-both, demand-two-tree}
 
@@ -238,7 +238,6 @@ refuses desk tree path buffer kind id leaf q e = go (askOf desk kind id leaf buf
 pub whole-requests : WholeRequests
 whole-requests =
     record {
-      once = λ desk tree path buffer kind id leaf. once (requestOf desk tree path buffer kind id leaf);
       refuses = refuses;
       as-turns = asked-only;
     }

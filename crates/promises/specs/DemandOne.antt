@@ -21,6 +21,7 @@ use Rattle.asks.specs.Ask.{askRows, askedValue}
 use Rattle.formats.specs.Format.{formatRows, formatValue}
 use Rattle.store.specs.declared.Finished.the-variants as finished
 use Rattle.store.specs.Finish.{finishRows, finishedValue}
+use Rattle.requests.specs.Request.{requestOf}
 use Rattle.promises.specs.Stores.{Store, Start, formatFor}
 
 -- ---- what a refusal changes
@@ -79,7 +80,8 @@ pub record DemandOne (m : Means) (store : Store) : Type 0 where
   pub put-refuses : (s : Sizes) (leaf : ℕ) (tree path : List ℕ) (q : Refusal) → putOf s leaf tree path .answer ≡ Refused q
       → (putOf s leaf tree path .tree ≡ tree) × (putOf s leaf tree path .path ≡ path)
   pub put-once : (s : Sizes) (leaf : ℕ) (tree path : List ℕ) → One (putOf s leaf tree path)
-  -- whether a desk is good, the digest and the cipher
+  -- a whole request; whether a desk is good; the digest and the cipher
+  pub request-once : (desk tree path buffer : List ℕ) (kind : Kind) (id leaf : ℕ) → One (requestOf desk tree path buffer kind id leaf)
   pub good-once : (desk : List ℕ) → One (goodDesk desk)
   pub digest-once : (text : List ℕ) → One (m .digest text)
   pub cipher-once : (key nonce text : List ℕ) → One (m .cipher key nonce text)

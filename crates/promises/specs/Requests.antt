@@ -14,7 +14,6 @@ use Rattle.requests.specs.declared.Answered.the-variants as answered
 use Rattle.requests.specs.Request.{RequestResult, requestOf}
 use Rattle.keeping.specs.Table.{plainAnswer, plainBuffer}
 use Rattle.promises.specs.Stores.{ours, Start, Request, Accepted}
-use Rattle.promises.specs.DemandOne.{One}
 use Rattle.promises.specs.Trees.{TreeState, asking, serving, turn, TreeReached}
 
 -- a request in a state, with a path and a record lent for it: the lent record is what a write writes, and where a read's record goes
@@ -42,7 +41,6 @@ pub record AsTurns (b : Start) (ts : TreeState) (path buffer : List ℕ) (kind :
   pub reached : TreeReached (ours real) b (twoTurns b ts path buffer kind id leaf)
 
 pub record WholeRequests : Type 0 where
-  pub once : (desk tree path buffer : List ℕ) (kind : Kind) (id leaf : ℕ) → One (requestOf desk tree path buffer kind id leaf)
   -- a refusal before anything was asked for changes nothing
   pub refuses : (desk tree path buffer : List ℕ) (kind : Kind) (id leaf : ℕ) (q : Refusal)
       → requestOf desk tree path buffer kind id leaf .answer ≡ answered.Refused q
