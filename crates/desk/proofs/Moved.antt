@@ -12,8 +12,8 @@ use Rattle.sizes.proofs.Lengths.{leaves-most}
 use Rattle.slots.specs.Slots.{Block, AllFit}
 use Rattle.desk.specs.Layout.{cLen, dAt, eAt, idsOf, roomOf, shapeOf}
 use Rattle.desk.specs.Readers.{sizesOf}
-use Rattle.desk.specs.Status.{readyStatus, atStatus}
-use Rattle.desk.specs.Changes.{withRequest, withPlace, withRoot, withStash}
+use Rattle.desk.specs.Status.{readyStatus}
+use Rattle.desk.specs.Changes.{settled}
 use Rattle.desk.specs.Good.{goodDesk}
 use Rattle.desk.specs.Parts.{Parts, partsOf, toStatus, toRequest, toRoot, toPlace, toStash}
 use Rattle.desk.specs.Stash.{Stashed}
@@ -46,7 +46,8 @@ module _ (desk : List ℕ) (g : goodDesk desk ≡ true) (id leaf mark : ℕ) (bs
   abbrev none : List ℕ
   none = zeros (cLen (shapeOf desk))
 
-  pub settled-changed : Changed desk (atStatus readyStatus (withRequest none (withRoot digest (withStash bs (withPlace id leaf mark desk))))) (toStatus readyStatus (toRequest none (toRoot digest moved)))
+  pub settled-changed : Changed desk (settled id leaf mark bs digest desk) (toStatus readyStatus (toRequest none (toRoot digest moved)))
+  unfolding settled
   settled-changed =
       let w = known desk g .size in
       let p = place-changed w (unchanged desk) id leaf mark low high in
@@ -55,7 +56,7 @@ module _ (desk : List ℕ) (g : goodDesk desk ≡ true) (id leaf mark : ℕ) (bs
       status-changed w (request-changed w r none (length-zeros (cLen (shapeOf desk)))) readyStatus
 
   pub settled-good : leaf < leaves (sizesOf desk) → mark ≤ 1 → Stashed (shapeOf desk) (moved .places) bs → length bs < 65536
-      → goodDesk (atStatus readyStatus (withRequest none (withRoot digest (withStash bs (withPlace id leaf mark desk))))) ≡ true
+      → goodDesk (settled id leaf mark bs digest desk) ≡ true
   settled-good l m st few =
       let k = known desk g in
       let d : dLen (idsOf desk) ≤ length (partsOf desk .places) =

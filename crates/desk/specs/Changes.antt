@@ -1,4 +1,4 @@
--- What is changed in a desk, one field or body at a time; `atStatus` is in Status. Assumes nothing.
+-- What is changed in a desk, one field or body at a time, and by an accepted request. Assumes nothing.
 use Prim.Native.Nat.{ℕ, _+_, _*_, _-_}
 use mathlib.Core.List.{List, [], _∷_, _++_}
 use lib.ListN.{length, set}
@@ -6,7 +6,8 @@ use Rattle.words.specs.Bytes.{splice, zeros}
 use Rattle.words.specs.Numbers.{bytesOf}
 use Rattle.slots.specs.Slots.{Block, slotBy, slotsBytes}
 use Rattle.desk.specs.declared.Shape.{Shape}
-use Rattle.desk.specs.Layout.{cAt, dAt, eAt, shapeOf, rootAt, writtenAt, placeAt}
+use Rattle.desk.specs.Layout.{cAt, cLen, dAt, eAt, shapeOf, rootAt, writtenAt, placeAt}
+use Rattle.desk.specs.Status.{readyStatus, atStatus}
 
 -- body (c)
 unfoldable pub withRequest : List ℕ → List ℕ → List ℕ
@@ -26,3 +27,11 @@ stashBytes h bs = bytesOf 2 (length bs) ++ (slotsBytes bs ++ zeros (slotBy (h .r
 
 unfoldable pub withStash : List Block → List ℕ → List ℕ
 withStash bs desk = splice desk (eAt (shapeOf desk)) (stashBytes (shapeOf desk) bs)
+
+-- the request cleared, at status 0
+abbrev pub closed : List ℕ → List ℕ
+closed desk = atStatus readyStatus (withRequest (zeros (cLen (shapeOf desk))) desk)
+
+-- what an accepted request leaves: its id's position and mark, the stash, root digest and root written; and no request
+unfoldable pub settled : ℕ → ℕ → ℕ → List Block → List ℕ → List ℕ → List ℕ
+settled id leaf mark stash root desk = closed (withRoot root (withStash stash (withPlace id leaf mark desk)))

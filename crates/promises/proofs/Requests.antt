@@ -176,6 +176,7 @@ module _ (b : Start) (byte : b .room < 256) (ts : TreeState) (reached : TreeReac
             λ a.
             let k = kept .kept .plain got buffer (handed (λ n. a BadLength (ap (λ (x : FinishResult). x .answer) (short-is n)))) a req refl in
             (k .0, ap (λ (x : RequestResult). x .buffer) request-is ∙ k .1);
+        middle = reached-turn (ours real) b ts reached (asking req);
         desk = ap (λ (x : RequestResult). x .desk) request-is ∙ sym (ap (λ (x : TreeState). x .state .desk) two ∙ after-desk s (one .state) (f .answer) f);
         tree =
             ap (λ (x : RequestResult). x .tree) request-is ∙ same-put (f .answer) (ts .tree) (putOf s p (ts .tree) (f .path) .tree)

@@ -35,6 +35,8 @@ pub record AsTurns (b : Start) (ts : TreeState) (path buffer : List ℕ) (kind :
   -- the path from the tree is never Forged; an accepted finish answers as the plain table does, and the record buffer holds what the table's would
   pub never-forged : f ≢ finished.Refused Forged
   pub plain : Accepted f → (f ≡ plainAnswer kind (ts .state .table id)) × (requestFor ts path buffer kind id leaf .buffer ≡ plainBuffer kind (ts .state .table id) buffer)
+  -- the state between the two turns is reached, so that demand 2 says of it when the finish is Worn or Full
+  pub middle : TreeReached (ours real) b (turn (ours real) (b .sizes) ts (asking (asRequest kind id leaf buffer)))
   -- desk and tree are those after the two turns, so that demand 2 goes on from there
   pub desk : requestFor ts path buffer kind id leaf .desk ≡ twoTurns b ts path buffer kind id leaf .state .desk
   pub tree : requestFor ts path buffer kind id leaf .tree ≡ twoTurns b ts path buffer kind id leaf .tree

@@ -4,13 +4,11 @@ use mathlib.Core.Bool.{Bool, true, false}
 use mathlib.Core.List.{List, [], _∷_, _++_}
 use lib.ListN.{getD}
 use lib.Dec.{eqb}
-use Rattle.words.specs.Bytes.{zeros}
 use Rattle.sizes.specs.declared.Refusal.the-variants.{BadDesk}
 use Rattle.sizes.specs.Refusals.{keptOr}
-use Rattle.desk.specs.Layout.{cLen, shapeOf}
 use Rattle.desk.specs.Readers.{kindAsked, writtenOf}
-use Rattle.desk.specs.Status.{readyStatus, atStatus, stoppedOr}
-use Rattle.desk.specs.Changes.{withRequest, withRoot}
+use Rattle.desk.specs.Status.{stoppedOr}
+use Rattle.desk.specs.Changes.{withRoot, closed}
 use Rattle.slots.specs.Slots.{Block}
 use Rattle.items.specs.declared.View.{View}
 use Rattle.items.specs.Items.{Means, itemDigest, sealed}
@@ -57,7 +55,7 @@ abbrev pub echo : Means → List ℕ → List ℕ → List ℕ → FinishResult
 echo m desk path buffer =
     record {
       answer = answerFor (kindAsked desk) (wasMarked m desk path);
-      desk = atStatus readyStatus (withRequest (zeros (cLen (shapeOf desk))) desk);
+      desk = closed desk;
       path = path;
       buffer = buffer;
     }

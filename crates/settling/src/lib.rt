@@ -5,10 +5,10 @@ ghost use Prim.Native.Nat.{_≤_};
 ghost use lib.ListN.{length};
 ghost use Rattle.sizes.specs.Sizes.{digestLen};
 ghost use Rattle.desk.specs.Layout.{Whole, idsOf, roomOf};
-ghost use Rattle.desk.specs.Changes.{withPlace, withRoot, withStash};
+ghost use Rattle.desk.specs.Changes.{withPlace, withRoot, withStash, closed, settled};
 ghost use Rattle.placing.specs.Bank.{Inside, blocksAt};
 ghost use Rattle.placing.specs.Walk.{pick};
-ghost use Rattle.settling.specs.Settling.{Held, closed, settled};
+ghost use Rattle.settling.specs.Settling.{Held};
 
 // The id's position and mark.
 pub fn set_place(desk: &mut [u8], id: usize, leaf: u16, mark: u8)

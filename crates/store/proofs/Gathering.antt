@@ -23,8 +23,8 @@ use Rattle.gathering.proofs.Found.{used-found, place-is}
 use Rattle.opening.specs.Opening.{viewOf, stashSlots, foundAt, foundTo, gathered}
 use Rattle.opening.specs.Walk.{Unsealed}
 use Rattle.opening.proofs.Gathered.{opened-found, found-first}
-use Rattle.settling.specs.Settling.{settled}
-use Rattle.store.specs.Steps.{markFor, carried, under, wasMarked, recordFound, toPlace, newStash, newPath, newRoot, newDesk}
+use Rattle.desk.specs.Changes.{settled}
+use Rattle.store.specs.Steps.{markFor, carried, under, wasMarked, recordFound, toPlace, newPath, newRoot, newDesk}
 use Rattle.store.specs.Carried.{isThere, carriedOn}
 use Rattle.store.specs.Ready.{requestOf, carriedOf}
 use Rattle.store.specs.Laying.{Writable, Placed, Accepted}
@@ -78,20 +78,16 @@ module _ (s : Sizes) (leaf : ℕ) (blocks : List Block) (all over : ℕ) (bank p
   plan-placed h l = p .bucket h l
 
 module _ (desk path : List ℕ) where
-  desk-new : settled (idAsked desk) (newLeaf desk) (markFor (kindAsked desk) (wasMarked real desk path)) (newStash real desk path) (newRoot real desk path) desk ≡ newDesk real desk path
-  unfolding settled newDesk
-  desk-new = refl
-
   module _ (all over : ℕ) (bank places at after changed : List ℕ) (p : Planned (sizesOf desk) (leafAsked desk) (toPlace real desk path) all over bank places at)
       (a : Accepted (viewOf desk) path desk after changed (idAsked desk) (newLeaf desk) (markFor (kindAsked desk) (wasMarked real desk path)) (take all at) (blocksAt bank (take all places))) where
     pub path-accepted : after ≡ newPath real desk path
     path-accepted = a .path-is _ (plan-placed (sizesOf desk) (leafAsked desk) (toPlace real desk path) all over bank places at p)
 
     pub desk-accepted : changed ≡ newDesk real desk path
+    unfolding newDesk
     desk-accepted =
         a .desk-is _ (plan-placed (sizesOf desk) (leafAsked desk) (toPlace real desk path) all over bank places at p)
         ∙ ap (λ (bs : List Block). settled (idAsked desk) (newLeaf desk) (markFor (kindAsked desk) (wasMarked real desk path)) bs (newRoot real desk path) desk) (p .stash)
-        ∙ desk-new
 
   -- with what the code reads
   pub followed : (v : View) (id leaf mark : ℕ) → v ≡ viewOf desk → id ≡ idAsked desk → leaf ≡ newLeaf desk → mark ≡ markFor (kindAsked desk) (wasMarked real desk path)

@@ -10,7 +10,8 @@ use Rattle.items.specs.declared.View.{View}
 use Rattle.items.specs.Items.{slotsOf}
 use Rattle.items.specs.Real.{real}
 use Rattle.writing.specs.Writing.{pathWritten, rootWritten}
-use Rattle.settling.specs.Settling.{Held, settled}
+use Rattle.settling.specs.Settling.{Held}
+use Rattle.desk.specs.Changes.{settled}
 use Rattle.placing.specs.Walk.{pick}
 
 -- the items of the first n levels hold the blocks of their heights

@@ -2,15 +2,12 @@
 use Prim.Native.Nat.{ℕ}
 use mathlib.Core.Bool.{Bool, true, false, not}
 use mathlib.Core.List.{List, [], _∷_, _++_}
-use Rattle.words.specs.Bytes.{zeros}
 use Rattle.bags.specs.Bags.{those}
 use Rattle.slots.specs.Slots.{Block}
 use Rattle.desk.specs.declared.Kind.{Kind}
 use Rattle.desk.specs.declared.Kind.the-variants.{Read, Write}
-use Rattle.desk.specs.Layout.{cLen, shapeOf}
 use Rattle.desk.specs.Readers.{sizesOf, kindAsked, idAsked, newLeaf, recordAsked, leafAsked, isMarked}
-use Rattle.desk.specs.Status.{readyStatus, atStatus}
-use Rattle.desk.specs.Changes.{withRequest, withPlace, withRoot, withStash}
+use Rattle.desk.specs.Changes.{settled}
 use Rattle.items.specs.Items.{Means}
 use Rattle.opening.specs.Opening.{viewOf, isId, gathered}
 unfoldable pub use Rattle.opening.specs.Opening.{lookup}
@@ -79,7 +76,4 @@ module _ (m : Means) (desk path : List ℕ) where
 
   -- 4. and 6.: the id's position and mark, the stash, root digest and root written, the request cleared, status 0
   unfoldable pub newDesk : List ℕ
-  newDesk =
-      atStatus readyStatus
-      (withRequest (zeros (cLen (shapeOf desk)))
-      (withRoot newRoot (withStash newStash (withPlace (idAsked desk) (newLeaf desk) (markFor (kindAsked desk) wasMarked) desk))))
+  newDesk = settled (idAsked desk) (newLeaf desk) (markFor (kindAsked desk) wasMarked) newStash newRoot desk

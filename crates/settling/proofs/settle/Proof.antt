@@ -5,7 +5,7 @@ use denote.Ref.{now}
 use Rattle.placing.specs.Bank.{blocksAt}
 use Rattle.placing.specs.Walk.{pick}
 use Rattle.desk.specs.Layout.{Whole, roomOf}
-use Rattle.settling.specs.Settling.{settled}
+use Rattle.desk.specs.Changes.{settled}
 use Rattle.settling.proofs.Whole.{place-whole, place-room, stash-whole, root-whole}
 use borrow.Author.Needs.{needs}
 use Rattle.settling.proofs.settle.Statement.{statement}

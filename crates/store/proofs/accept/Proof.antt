@@ -8,7 +8,7 @@ use Rattle.slots.specs.Slots.{Block, slotsWith}
 use Rattle.writing.specs.Pieces.{Holds}
 use Rattle.placing.specs.Bank.{blocksAt}
 use Rattle.placing.specs.Walk.{pick}
-use Rattle.settling.specs.Settling.{settled}
+use Rattle.desk.specs.Changes.{settled}
 use Rattle.store.specs.Laying.{Placed}
 use borrow.Author.Needs.{needs}
 use Rattle.store.proofs.accept.Statement.{statement}
