@@ -23,7 +23,8 @@ fn place_good(d: &[u8], i: usize, most: usize) -> bool
     ((words::get16(d, at) as usize) < most) & (d[at + super::MARK_IN] <= 1)
 }
 
-// The highest place, with the last leaf and a mark, sixty-four times: so often that the compiler keeps the loop over them.
+// The highest place, with the last leaf and a mark, sixty-four times: so often that the compiler keeps the loop over them. That they are good places is
+// all that is asked of them: lower ones would send more places to be looked at one by one, and no answer would change.
 fn highest(most: usize) -> [u8; BYTES]
     requires { ⌜ InSixteenBits most ⌝ }
     ensures { λ x. ⌜ placesGood most together x ≡ true ⌝ }
