@@ -1,10 +1,11 @@
--- Ch in three operations: the bits of z, with those of y where x has a 1. Assumes nothing.
+-- Ch in three operations: the bits of z, with those of y where x has a 1; and Maj by it. Assumes nothing.
 use Prim.Native.Nat.{ℕ, zero, suc, _-_, _*_, _/_, _%_, _^_, _<_}
 use mathlib.Core.Path.{_≡_, refl, sym, ap, ap₂, _∙_}
 use native.Mathlib.Nat.{pow-suc}
 use native.Mathlib.Omega.{arith}
-use lib.Bits.{bitAnd, bitXor, and-shr, xor-shr, and-mod, xor-mod}
-use Rattle.sha2.specs.Sha2.{ch}
+use lib.Bits.{bitAnd, bitXor, and-shr, xor-shr, and-mod, xor-mod, xor-lt}
+use Rattle.sha2.specs.Sha2.{ch, maj}
+use Rattle.sha2.proofs.Bitwise.{eight, halves, agree}
 
 -- the two forms, over the complement n of x
 abbrev three : (x y z : ℕ) → ℕ
@@ -15,21 +16,7 @@ four n x y z = bitXor (bitAnd x y) (bitAnd n z)
 
 -- one bit, by cases
 one : (x y z : ℕ) → x < 2 → y < 2 → z < 2 → three x y z ≡ four (1 - x) x y z
-one zero zero zero hx hy hz = refl
-one zero zero (suc zero) hx hy hz = refl
-one zero (suc zero) zero hx hy hz = refl
-one zero (suc zero) (suc zero) hx hy hz = refl
-one (suc zero) zero zero hx hy hz = refl
-one (suc zero) zero (suc zero) hx hy hz = refl
-one (suc zero) (suc zero) zero hx hy hz = refl
-one (suc zero) (suc zero) (suc zero) hx hy hz = refl
-one (suc (suc x)) y z hx hy hz = absurd (omega arith)
-one zero (suc (suc y)) z hx hy hz = absurd (omega arith)
-one (suc zero) (suc (suc y)) z hx hy hz = absurd (omega arith)
-one zero zero (suc (suc z)) hx hy hz = absurd (omega arith)
-one zero (suc zero) (suc (suc z)) hx hy hz = absurd (omega arith)
-one (suc zero) zero (suc (suc z)) hx hy hz = absurd (omega arith)
-one (suc zero) (suc zero) (suc (suc z)) hx hy hz = absurd (omega arith)
+one = eight (λ (x y z : ℕ). three x y z ≡ four (1 - x) x y z) refl refl refl refl refl refl refl refl
 
 -- the halves and the last bit of each form
 three-half : (x y z : ℕ) → three x y z / 2 ≡ three (x / 2) (y / 2) (z / 2)
@@ -43,10 +30,6 @@ four-half n x y z = xor-shr (bitAnd x y) (bitAnd n z) 1 ∙ ap₂ bitXor (and-sh
 
 four-last : (n x y z : ℕ) → four n x y z % 2 ≡ four (n % 2) (x % 2) (y % 2) (z % 2)
 four-last n x y z = xor-mod (bitAnd x y) (bitAnd n z) 1 ∙ ap₂ bitXor (and-mod x y 1) (and-mod n z 1)
-
--- numbers are equal whose halves and last bits are
-halves : (a b : ℕ) → a / 2 ≡ b / 2 → a % 2 ≡ b % 2 → a ≡ b
-halves a b p q = omega arith
 
 choose : (k x y z : ℕ) → x < 2 ^ k → y < 2 ^ k → z < 2 ^ k → three x y z ≡ four (2 ^ k - 1 - x) x y z
 choose zero zero zero zero hx hy hz = refl
@@ -67,3 +50,18 @@ choose (suc k) x y z hx hy hz =
 pub choose-is : (w x y z : ℕ) → x < 2 ^ w → y < 2 ^ w → z < 2 ^ w → three x y z ≡ ch w x y z
 unfolding ch
 choose-is w x y z hx hy hz = choose w x y z hx hy hz
+
+-- ---- Maj is the choice, where x and y differ, of z, and of y where they agree
+
+majority : (k x y z : ℕ) → x < 2 ^ k → y < 2 ^ k → z < 2 ^ k → three (bitXor x y) z y ≡ maj x y z
+unfolding maj
+majority =
+    agree (λ (x y z : ℕ). three (bitXor x y) z y) maj
+    (λ x y z. three-half (bitXor x y) z y ∙ ap (λ (m : ℕ). three m (z / 2) (y / 2)) (xor-shr x y 1))
+    (λ x y z. three-last (bitXor x y) z y ∙ ap (λ (m : ℕ). three m (z % 2) (y % 2)) (xor-mod x y 1))
+    (λ x y z. xor-shr (bitXor (bitAnd x y) (bitAnd x z)) (bitAnd y z) 1 ∙ ap₂ bitXor (xor-shr (bitAnd x y) (bitAnd x z) 1 ∙ ap₂ bitXor (and-shr x y 1) (and-shr x z 1)) (and-shr y z 1))
+    (λ x y z. xor-mod (bitXor (bitAnd x y) (bitAnd x z)) (bitAnd y z) 1 ∙ ap₂ bitXor (xor-mod (bitAnd x y) (bitAnd x z) 1 ∙ ap₂ bitXor (and-mod x y 1) (and-mod x z 1)) (and-mod y z 1))
+    (eight (λ (x y z : ℕ). three (bitXor x y) z y ≡ maj x y z) refl refl refl refl refl refl refl refl)
+
+pub majority-is : (w x y z : ℕ) → x < 2 ^ w → y < 2 ^ w → z < 2 ^ w → ch w (bitXor x y) z y ≡ maj x y z
+majority-is w x y z hx hy hz = sym (choose-is w (bitXor x y) z y (xor-lt w x y hx hy) hz hy) ∙ majority w x y z hx hy hz

@@ -1,4 +1,6 @@
+pub mod Bitwise
 pub mod Choose
+pub mod Rotations
 pub mod Schedule
 pub mod Rounds
 pub mod Blocks

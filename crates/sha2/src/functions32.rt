@@ -24,29 +24,33 @@ pub fn ch(x: u32, y: u32, z: u32) -> u32
     z ^ (x & (y ^ z))
 }
 
+// Where x and y differ z decides, elsewhere both do: x ^ y of a round is y ^ z of the next one.
 pub fn maj(x: u32, y: u32, z: u32) -> u32
     ensures { λ r. ⌜ r ≡ maj x y z ⌝ }
 {
-    (x & y) ^ (x & z) ^ (y & z)
+    ch(x ^ y, z, y)
 }
 
-// Three rotations, and two with a shift: the forms of Σ₀, Σ₁ and of σ₀, σ₁.
+// Three rotations, and two with a shift: the forms of Σ₀, Σ₁ and of σ₀, σ₁. A rotation of what two rotations share is made once for both:
+// Rotations, of proofs/, says that this is the standard's form.
 fn rotations(x: u32, a: u32, b: u32, c: u32) -> u32
-    requires { ⌜ (0 < a) × (a < 32) ⌝ }
-    requires { ⌜ (0 < b) × (b < 32) ⌝ }
-    requires { ⌜ (0 < c) × (c < 32) ⌝ }
+    requires { ⌜ 0 < a ⌝ }
+    requires { ⌜ a < b ⌝ }
+    requires { ⌜ b < c ⌝ }
+    requires { ⌜ c < 32 ⌝ }
     ensures { λ r. ⌜ r ≡ rotr³ 32 a b c x ⌝ }
 {
-    rotr(x, a) ^ rotr(x, b) ^ rotr(x, c)
+    rotr(x ^ rotr(x ^ rotr(x, c - b), b - a), a)
 }
 
 fn rotations_shift(x: u32, a: u32, b: u32, c: u32) -> u32
-    requires { ⌜ (0 < a) × (a < 32) ⌝ }
-    requires { ⌜ (0 < b) × (b < 32) ⌝ }
+    requires { ⌜ 0 < a ⌝ }
+    requires { ⌜ a < b ⌝ }
+    requires { ⌜ b < 32 ⌝ }
     requires { ⌜ c < 32 ⌝ }
     ensures { λ r. ⌜ r ≡ rotr²shr 32 a b c x ⌝ }
 {
-    rotr(x, a) ^ rotr(x, b) ^ (x >> c)
+    rotr(x ^ rotr(x, b - a), a) ^ (x >> c)
 }
 
 // Σ₀, Σ₁, σ₀, σ₁.

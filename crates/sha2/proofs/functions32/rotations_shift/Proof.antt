@@ -1,8 +1,12 @@
--- `sha2::functions32::rotations_shift` meets its contract: its rotations and its shift are the definition's. Assumes nothing.
+-- `sha2::functions32::rotations_shift` meets its contract: one rotation within another is two. Assumes nothing.
 use borrow.Author.Needs.{needs}
-use Rattle.sha2.specs.Sha2.{rotr²shr, shr}
+use Rattle.sha2.specs.Sha2.{shr}
+use Rattle.sha2.proofs.Rotations.{rotr²shr-is}
 use Rattle.sha2.proofs.functions32.rotations_shift.Statement.{statement}
 use Rattle.sha2.proofs.functions32.rotations_shift.Tie as tie
+
+sub-rotr : tie.Need-sub-rotr
+sub-rotr c = search needs
 
 rotr-requires : tie.Need-rotr-requires
 rotr-requires c κs = search needs
@@ -14,8 +18,10 @@ shr-result : tie.Need-shr-result
 shr-result c = search needs
 
 returns : tie.Need-returns
-unfolding rotr²shr shr
-returns c = cc
+unfolding shr
+returns c =
+    let a = c .before .before .args in
+    cc (rotr²shr-is 32 (a .x) (search needs) (a .a) (a .b) (a .c) (search needs) (search needs))
 
 pub rotations-shift-spec : {M : Type 1} → statement M
-rotations-shift-spec = tie.close (tie.spec rotr-requires rotr-requires-2 shr-result returns)
+rotations-shift-spec = tie.close (tie.spec sub-rotr rotr-requires rotr-requires-2 shr-result returns)
