@@ -7,9 +7,10 @@ use native.Mathlib.Nat.{add-zero, zero-add, add-suc}
 use native.Mathlib.Numerals.{add-one}
 use native.Mathlib.Omega.{arith}
 use lib.ListN.{length, getD, take, set, length-append}
-use lib.Seq.{getD-take, getD-at, length-take-le, take-suc, take-suc-set, take-all, take-take, take-append-le}
+use lib.Seq.{getD-take, getD-at, length-take-le, take-suc-set, take-all, take-append-le}
 use Rattle.words.specs.Numbers.{bigNumber}
-use Rattle.sha2.specs.Sha2.{Sha2, wordsOf, next, extend, plus, Follows}
+use Rattle.sha2.specs.Sha2.{Sha2, wordsOf, next, extend, plus}
+use Rattle.sha2.specs.Turns.{Follows}
 
 -- ---- lists that agree on their first words
 
@@ -19,14 +20,6 @@ take-put w t x h = rw (add-one, take-suc-set)
 
 pub same-word : (xs ys : List ℕ) (n i : ℕ) → i < n → take n xs ≡ take n ys → getD xs i 0 ≡ getD ys i 0
 same-word xs ys n i h p = sym (getD-take n xs i 0 h) ∙ ap (λ (l : List ℕ). getD l i 0) p ∙ getD-take n ys i 0 h
-
-pub agree-less : (xs ys : List ℕ) (n m : ℕ) → n ≤ m → take m xs ≡ take m ys → take n xs ≡ take n ys
-agree-less xs ys n m h p = sym (take-take n m xs h) ∙ ap (take n) p ∙ take-take n m ys h
-
--- past the end of both there is nothing to differ in
-pub agree-past : (xs ys : List ℕ) (n m : ℕ) → length xs ≤ n → length ys ≤ n → n ≤ m → take n xs ≡ take n ys → take m xs ≡ take m ys
-agree-past xs ys n m h k l p =
-    take-all m xs (omega arith) ∙ sym (take-all n xs h) ∙ p ∙ take-all n ys k ∙ sym (take-all m ys (omega arith))
 
 -- ---- the words of a block
 
@@ -48,14 +41,6 @@ pub next-by : (v : Sha2) (ws : List ℕ) (t : ℕ) → 16 ≤ t → t ≤ length
     → x₁ ≡ plus (v .bits) s₁ (getD ws (t - 7) 0) → s₀ ≡ v .σ₀ (getD ws (t - 15) 0) → x₂ ≡ plus (v .bits) x₁ s₀
     → x₃ ≡ plus (v .bits) x₂ (getD ws (t - 16) 0) → x₃ ≡ next v (take t ws)
 next-by v ws t h l p₁ p₂ p₃ p₄ p₅ = cc (next-is v ws t h l)
-
--- a store of the next word: the words agree with the schedule's so far
-pub next-more : (v : Sha2) (ws w : List ℕ) (t x : ℕ) → 16 ≤ t → t < v .rounds → length w ≡ v .rounds → x ≡ next v (take t w) → Follows v ws → take t w ≡ take t ws
-    → take (t + 1) (set w t x) ≡ take (t + 1) ws
-next-more v ws w t x h l n q f p =
-    let e : getD ws t 0 ≡ x = f .word t h l ∙ sym (q ∙ ap (next v) p) in
-    let m : t < length ws = omega (arith, f .long) in
-    take-put w t x (omega arith) ∙ rw (p, ← e, add-one) (sym (take-suc ws t 0 m))
 
 -- ---- the whole schedule
 

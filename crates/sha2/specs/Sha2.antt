@@ -1,10 +1,9 @@
 -- FIPS 180-4, what the hashes of the SHA-2 family share, stated once over a `Sha2`: the size of a word and of a block, the functions and
 -- the constants of one of them. A word is a number below 2 ^ bits, a byte one below 256; a message, a block and a digest are lists of bytes.
 -- Section numbers are the standard's; its 6.2 (SHA-256) and 6.4 (SHA-512) differ in the `Sha2` alone. Assumes nothing.
-use Prim.Native.Nat.{ℕ, zero, suc, _+_, _-_, _*_, _/_, _%_, _^_, _≤_, _<_}
-use mathlib.Core.Path.{_≡_}
+use Prim.Native.Nat.{ℕ, zero, suc, _+_, _-_, _*_, _/_, _%_, _^_}
 use mathlib.Core.List.{List, [], _∷_, _++_}
-use lib.ListN.{length, getD, take}
+use lib.ListN.{length, getD}
 use lib.Bits.{bitAnd, bitOr, bitXor}
 use Rattle.words.specs.Bytes.{part, zeros}
 use Rattle.words.specs.Numbers.{bigNumber, bigBytesOf}
@@ -76,11 +75,6 @@ extend v (suc k) ws = extend v k ws ++ (next v (extend v k ws) ∷ [])
 
 unfoldable pub schedule : Sha2 → List ℕ → List ℕ
 schedule v b = extend v (v .rounds - 16) (wordsOf (v .bytes) 16 b)
-
--- what makes ws a whole schedule, whatever its first sixteen words
-pub record Follows (v : Sha2) (ws : List ℕ) : Type 0 where
-  pub long : length ws ≡ v .rounds
-  pub word : (i : ℕ) → 16 ≤ i → i < v .rounds → getD ws i 0 ≡ next v (take i ws)
 
 -- step 3: one round, on the working variables a, b, .., h; and the first t rounds (they begin at s, step 2)
 unfoldable pub round : Sha2 → List ℕ → (k w : ℕ) → List ℕ

@@ -19,10 +19,10 @@ const WORDS: usize = 16;
 
 const STATE: usize = 8;
 
-// Rounds, of which the schedule has a word each, and how many of them are made in a turn.
-const ROUNDS: usize = 64;
+// The last of the turns of sixteen rounds, counted from 0, and how many rounds of it are made at once.
+const LAST: usize = 3;
 
-const TURN: usize = 4;
+const FEW: usize = 4;
 
 pub fn digest(msg: &[u8]) -> [u8; 32]
     ensures { λ r. ⌜ r ≡ sha256 (now (msg .entry)) ⌝ }

@@ -1,16 +1,18 @@
-// The rounds and the compression of a block, section 6.2.2 steps 2 to 4. Four rounds and four words of the schedule a turn: the processor
-// then makes words while it waits for a round's sums.
+// The rounds and the compression of a block, section 6.2.2 steps 2 to 4, sixteen rounds a turn. Each word of the schedule is made between two
+// rounds: the processor then makes it while it waits for a round's sums.
 ghost use mathlib.Core.Path.{_≡_};
 ghost use Prim.Native.Nat.{ℕ, _+_, _≤_, _<_};
 ghost use mathlib.Core.List.{List};
-ghost use lib.ListN.{length, getD, take};
+ghost use lib.ListN.{length, getD};
 ghost use Rattle.words.specs.Bytes.{part};
 ghost use Rattle.sha2.specs.Sha2.{round, run, addAll, compress, extend};
+ghost use Rattle.sha2.specs.Turns.{Follows, Window, Reached};
 ghost use Rattle.sha2.specs.Sha256.{v256, K256};
-use crate::ROUNDS;
-use crate::TURN;
+use crate::FEW;
+use crate::LAST;
+use crate::WORDS;
 use crate::schedule::load;
-use crate::schedule::more;
+use crate::schedule::renew;
 use sha2::constants256::constants;
 use sha2::functions32::add;
 use sha2::functions32::big0;
@@ -36,42 +38,101 @@ pub fn round(s: [u32; 8], k: u32, w: u32) -> [u32; 8]
     ]
 }
 
-// Round t, with the constants in k: where s is the state after t rounds, and word t is the schedule's, the result is the one after t + 1.
-pub fn step(s: [u32; 8], k: &[u32; 64], w: &[u32; 64], t: usize) -> [u32; 8]
-    requires { ⌜ now k ≡ K256 ⌝ }
-    requires { ⌜ t < 64 ⌝ }
-    ensures { λ r. ⌜ ((ws s₀ : List ℕ) → getD (now (w .entry)) t 0 ≡ getD ws t 0 → s ≡ run v256 ws t s₀ → r ≡ run v256 ws (t + 1) s₀) ⌝ }
+// Round i of the turn whose sixteen constants are k: where s is the state after t + i rounds, and word i the schedule's, the result is the
+// state after one round more.
+pub fn step(s: [u32; 8], k: &[u32; 16], w: &[u32; 16], i: usize) -> [u32; 8]
+    requires { ⌜ i < 16 ⌝ }
+    requires { ⌜ length (now k) ≡ 16 ⌝ }
+    requires { ⌜ length (now w) ≡ 16 ⌝ }
+    ensures { λ r. ⌜ ((ws s₀ : List ℕ) (t : ℕ) → now (k .entry) ≡ part K256 t 16 → getD (now (w .entry)) i 0 ≡ getD ws (t + i) 0 → s ≡ run v256 ws (t + i) s₀ → r ≡ run v256 ws (t + (i + 1)) s₀) ⌝ }
 {
-    round(s, k[t], w[t])
+    round(s, k[i], w[i])
 }
 
-// Four rounds from round t on.
-pub fn four(s: [u32; 8], k: &[u32; 64], w: &[u32; 64], t: usize) -> [u32; 8]
-    requires { ⌜ now k ≡ K256 ⌝ }
-    requires { ⌜ t + 4 ≤ 64 ⌝ }
-    ensures { λ r. ⌜ ((ws s₀ : List ℕ) → take (t + 16) (now (w .entry)) ≡ take (t + 16) ws → s ≡ run v256 ws t s₀ → r ≡ run v256 ws (t + 4) s₀) ⌝ }
+// The same, and word i is overwritten after it.
+pub fn step_on(s: [u32; 8], k: &[u32; 16], w: &mut [u32; 16], i: usize) -> [u32; 8]
+    requires { ⌜ i < 16 ⌝ }
+    requires { ⌜ length (now k) ≡ 16 ⌝ }
+    requires { ⌜ length (now w) ≡ 16 ⌝ }
+    ensures { λ _. ⌜ length (now (w .exit)) ≡ 16 ⌝ }
+    ensures { λ r. ⌜ ((ws s₀ : List ℕ) (t : ℕ) → Follows v256 ws → t + 32 ≤ 64 → now (k .entry) ≡ part K256 t 16 → Reached v256 ws s₀ t i s (now (w .entry)) → Reached v256 ws s₀ t (i + 1) r (now (w .exit))) ⌝ }
 {
-    let a = step(s, k, w, t);
-    let b = step(a, k, w, t + 1);
-    let c = step(b, k, w, t + 2);
-    step(c, k, w, t + 3)
+    let r = step(s, k, w, i);
+    renew(w, i);
+    r
 }
 
-// All rounds, with the words of the block at the front of w.
-pub fn rounds(start: [u32; 8], w: &mut [u32; 64]) -> [u32; 8]
-    requires { ⌜ length (now w) ≡ 64 ⌝ }
-    ensures { λ r. ⌜ r ≡ run v256 (extend v256 48 (take 16 (now (w .entry)))) 64 start ⌝ }
+// Sixteen rounds, and the words of the next turn. The places are written out, so that the compiler computes none of them; it is called at one
+// place, so that it is inlined and the state stays in registers.
+pub fn turn(s: &mut [u32; 8], k: &[u32; 16], w: &mut [u32; 16])
+    requires { ⌜ length (now k) ≡ 16 ⌝ }
+    requires { ⌜ length (now w) ≡ 16 ⌝ }
+    ensures { λ _. ⌜ length (now (w .exit)) ≡ 16 ⌝ }
+    ensures { λ _. ⌜ ((ws s₀ : List ℕ) (t : ℕ) → Follows v256 ws → t + 32 ≤ 64 → now (k .entry) ≡ part K256 t 16 → Reached v256 ws s₀ t 0 (now (s .entry)) (now (w .entry)) → Reached v256 ws s₀ (t + 16) 0 (now (s .exit)) (now (w .exit))) ⌝ }
 {
-    let k = constants();
+    let s0 = *s;
+    let s1 = step_on(s0, k, w, 0);
+    let s2 = step_on(s1, k, w, 1);
+    let s3 = step_on(s2, k, w, 2);
+    let s4 = step_on(s3, k, w, 3);
+    let s5 = step_on(s4, k, w, 4);
+    let s6 = step_on(s5, k, w, 5);
+    let s7 = step_on(s6, k, w, 6);
+    let s8 = step_on(s7, k, w, 7);
+    let s9 = step_on(s8, k, w, 8);
+    let s10 = step_on(s9, k, w, 9);
+    let s11 = step_on(s10, k, w, 10);
+    let s12 = step_on(s11, k, w, 11);
+    let s13 = step_on(s12, k, w, 12);
+    let s14 = step_on(s13, k, w, 13);
+    let s15 = step_on(s14, k, w, 14);
+    let s16 = step_on(s15, k, w, 15);
+    *s = s16;
+}
+
+// Four rounds of the last turn, from round i of it on.
+pub fn four(s: [u32; 8], k: &[u32; 16], w: &[u32; 16], i: usize) -> [u32; 8]
+    requires { ⌜ i + 4 ≤ 16 ⌝ }
+    requires { ⌜ length (now k) ≡ 16 ⌝ }
+    requires { ⌜ length (now w) ≡ 16 ⌝ }
+    ensures { λ r. ⌜ ((ws s₀ : List ℕ) (t : ℕ) → now (k .entry) ≡ part K256 t 16 → Window ws (now (w .entry)) t 0 → s ≡ run v256 ws (t + i) s₀ → r ≡ run v256 ws (t + (i + 4)) s₀) ⌝ }
+{
+    let a = step(s, k, w, i);
+    let b = step(a, k, w, i + 1);
+    let c = step(b, k, w, i + 2);
+    step(c, k, w, i + 3)
+}
+
+// The last sixteen rounds, which need no word after them.
+pub fn last_turn(start: [u32; 8], k: &[u32; 16], w: &[u32; 16]) -> [u32; 8]
+    requires { ⌜ length (now k) ≡ 16 ⌝ }
+    requires { ⌜ length (now w) ≡ 16 ⌝ }
+    ensures { λ r. ⌜ ((ws s₀ : List ℕ) (t : ℕ) → now (k .entry) ≡ part K256 t 16 → Reached v256 ws s₀ t 0 start (now (w .entry)) → r ≡ run v256 ws (t + 16) s₀) ⌝ }
+{
     let mut s = start;
-    let mut t = 0;
-    while t < ROUNDS {
-        more(w, t);
-        let after = four(s, &k, w, t);
+    let mut i = 0;
+    while i < WORDS {
+        let after = four(s, k, w, i);
         s = after;
-        t += TURN;
+        i += FEW;
     }
     s
+}
+
+// All rounds, with the words of the block in w.
+pub fn rounds(start: [u32; 8], w: &mut [u32; 16]) -> [u32; 8]
+    requires { ⌜ length (now w) ≡ 16 ⌝ }
+    ensures { λ r. ⌜ r ≡ run v256 (extend v256 48 (now (w .entry))) 64 start ⌝ }
+{
+    let mut s = start;
+    let mut row = 0;
+    while row < LAST {
+        let k = constants(row);
+        turn(&mut s, &k, w);
+        row += 1;
+    }
+    let k = constants(LAST);
+    last_turn(s, &k, w)
 }
 
 pub fn add_all(s: [u32; 8], t: [u32; 8]) -> [u32; 8]
@@ -94,7 +155,7 @@ pub fn compress(s: [u32; 8], b: &[u8], at: usize) -> [u32; 8]
     requires { ⌜ at + 64 ≤ length (now b) ⌝ }
     ensures { λ r. ⌜ r ≡ compress v256 s (part (now (b .entry)) at 64) ⌝ }
 {
-    let mut w = [0u32; 64];
+    let mut w = [0u32; 16];
     load(b, at, &mut w);
     add_all(s, rounds(s, &mut w))
 }

@@ -23,7 +23,7 @@ round-requires c κs = search needs
 returns : tie.Need-returns
 returns c =
     let a = c .before .before .before .args in
-    λ ws s₀ e p. run-more v256 (a .k .now) (a .w .now) ws s₀ (a .s) (c .round .result) (a .t) (c .before .before .before .pre .0) (c .round .ensures) e p
+    λ ws s₀ t k e p. run-more v256 (a .k .now) (a .w .now) ws s₀ (a .s) (c .round .result) t (a .i) (c .before .before .before .pre .0) (c .round .ensures) k e p
 
 pub step-spec : {M : Type 1} → statement M
 step-spec =

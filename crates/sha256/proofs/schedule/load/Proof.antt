@@ -3,6 +3,7 @@ use Prim.Native.Nat.{ℕ, _*_, _≤_, _-_}
 use mathlib.Core.Path.{_≡_, refl, sym, subst, _∙_}
 use native.Mathlib.Omega.{arith}
 use lib.ListN.{length, take, length-set}
+use lib.Seq.{take-all}
 use Rattle.words.specs.Bytes.{part}
 use Rattle.words.proofs.Numbers.{bigNumber-part}
 use Rattle.sha2.specs.Sha2.{wordsOf}
@@ -11,7 +12,7 @@ use Rattle.sha256.proofs.schedule.load.Statement.{statement}
 use Rattle.sha256.proofs.schedule.load.Tie as tie
 
 abbrev Inv-loop : tie.InvT-loop
-Inv-loop b at w₀ t₀ w t = ((t ≤ 16) × (length w ≡ 64)) × (take t w ≡ wordsOf 4 t (part b at 64))
+Inv-loop b at w₀ t₀ w t = ((t ≤ 16) × (length w ≡ 16)) × (take t w ≡ wordsOf 4 t (part b at 64))
 
 abbrev μ-loop : tie.MeasureT-loop
 μ-loop b at w₀ t₀ w t = 16 - t
@@ -54,8 +55,10 @@ returns : tie.Need-returns Inv-loop μ-loop
 returns c =
     let a = c .before .before .before .args in
     let l = c .before .loop in
-    let e : l .t ≡ 16 = omega arith in
-    (l .inv .0 .1, subst (λ (t : ℕ). take t (l .w) ≡ wordsOf 4 t (part (a .b .now) (a .at) 64)) e (l .inv .1))
+    let e : l .t ≡ 16 = omega arith in (
+      l .inv .0 .1,
+      sym (take-all 16 (l .w) (omega arith)) ∙ subst (λ (t : ℕ). take t (l .w) ≡ wordsOf 4 t (part (a .b .now) (a .at) 64)) e (l .inv .1),
+    )
 
 pub load-spec : {M : Type 1} → statement M
 load-spec =
