@@ -4,7 +4,7 @@ use Prim.Native.Nat.{ℕ, _+_, _-_, _*_, _/_, _%_, _^_, _≤_, _<_}
 use mathlib.Core.Path.{_≡_, sym, ap, ap₂, subst, _∙_}
 use native.Mathlib.Nat.{add-assoc, mul-assoc, add-mul, mod-lt, add-comm}
 use native.Mathlib.Omega.{arith}
-use lib.Bits.{bitXor, or-shifted-r, xor-block, xor-lt}
+use lib.Bits.{bitXor, or-shifted-r, xor-block, xor-lt, xor-mod, xor-shr}
 use lib.Arith.{digits-lt}
 use lib.Pow.{pow-add, pow-pos, shl-lt, shr-lt, split, high, low}
 use Rattle.sha2.specs.Sha2.{shr, rotr, rotr³, rotr²shr}
@@ -39,14 +39,11 @@ module _ (n k x : ℕ) (p : x < 2 ^ (n + k)) where
   rotated-lt : rotr (n + k) n x < 2 ^ (n + k)
   rotated-lt = rw rotated (below (x % 2 ^ n) (x / 2 ^ n) n k low-lt high-lt)
 
-  rotated-xor : (y : ℕ) → y < 2 ^ (n + k) → rotr (n + k) n (bitXor x y) ≡ bitXor (rotr (n + k) n x) (rotr (n + k) n y)
-  rotated-xor y q =
-      let hy : y / 2 ^ n < 2 ^ k = shr-lt k n (subst (λ (w : ℕ). y < 2 ^ w) (add-comm n k) q) in
-      let e : rotr (n + k) n y ≡ y % 2 ^ n * 2 ^ k + y / 2 ^ n =
-      ap (rotr (n + k) n) (sym (split y n)) ∙ exchanged n k (y / 2 ^ n) (y % 2 ^ n) hy (mod-lt y (pow-pos n)) in
-      ap (rotr (n + k) n) (ap₂ bitXor (sym (split x n)) (sym (split y n)) ∙ xor-block n (x / 2 ^ n) (y / 2 ^ n) (x % 2 ^ n) (y % 2 ^ n) low-lt (mod-lt y (pow-pos n)))
-      ∙ exchanged n k (bitXor (x / 2 ^ n) (y / 2 ^ n)) (bitXor (x % 2 ^ n) (y % 2 ^ n)) (xor-lt k (x / 2 ^ n) (y / 2 ^ n) high-lt hy) (xor-lt n (x % 2 ^ n) (y % 2 ^ n) low-lt (mod-lt y (pow-pos n)))
-      ∙ sym (xor-block k (x % 2 ^ n) (y % 2 ^ n) (x / 2 ^ n) (y / 2 ^ n) high-lt hy) ∙ ap₂ bitXor (sym rotated) (sym e)
+rotated-xor : (n k x y : ℕ) → x < 2 ^ (n + k) → y < 2 ^ (n + k) → rotr (n + k) n (bitXor x y) ≡ bitXor (rotr (n + k) n x) (rotr (n + k) n y)
+rotated-xor n k x y p q =
+    rotated n k (bitXor x y) (xor-lt (n + k) x y p q) ∙ ap₂ (λ (l h : ℕ). l * 2 ^ k + h) (xor-mod x y n) (xor-shr x y n)
+    ∙ sym (xor-block k (x % 2 ^ n) (y % 2 ^ n) (x / 2 ^ n) (y / 2 ^ n) (high-lt n k x p) (high-lt n k y q))
+    ∙ ap₂ bitXor (sym (rotated n k x p)) (sym (rotated n k y q))
 
 -- ---- a word of a + b + k bits: its low ones l, its middle ones m and its high ones h, of b, a and k bits
 
@@ -95,7 +92,7 @@ module _ (w x : ℕ) (h : x < 2 ^ w) where
   rotr-xor n y p q =
       let e : n + (w - n) ≡ w = omega arith in
       let up : (z : ℕ) → z < 2 ^ w → z < 2 ^ (n + (w - n)) = λ z r. subst (λ (v : ℕ). z < 2 ^ v) (sym e) r in
-      subst (λ (v : ℕ). rotr v n (bitXor x y) ≡ bitXor (rotr v n x) (rotr v n y)) e (rotated-xor n (w - n) x (up x h) y (up y q))
+      subst (λ (v : ℕ). rotr v n (bitXor x y) ≡ bitXor (rotr v n x) (rotr v n y)) e (rotated-xor n (w - n) x y (up x h) (up y q))
 
   rotr-rotr : (a b c : ℕ) → a + b ≡ c → c ≤ w → rotr w a (rotr w b x) ≡ rotr w c x
   rotr-rotr a b c e p =

@@ -1,10 +1,12 @@
 -- The laws of a schedule that is kept in sixteen words, each overwritten by the one sixteen further on. Assumes nothing.
-use Prim.Native.Nat.{ℕ, _+_, _-_, _%_, _≤_, _<_}
+use Prim.Native.Nat.{ℕ, _+_, _-_, _%_, _<_}
 use mathlib.Core.Path.{_≡_, sym, ap, _∙_}
 use mathlib.Core.List.{List}
-use mathlib.Core.Logic.{_⊎_, inl, inr, ⊎-elim}
-use native.Mathlib.Decide.{decLt}
+use mathlib.Core.Logic.{_≢_}
 use native.Mathlib.Omega.{arith}
+use lib.Dec.{eqb}
+use borrow.Author.Tests.{eqb-true, eqb-false}
+use Rattle.words.proofs.Tests.{byCases}
 use lib.ListN.{length, getD, set, take}
 use lib.Seq.{take-all, getD-set-same, getD-set-other}
 use Rattle.sha2.specs.Sha2.{Sha2, plus, extend}
@@ -52,18 +54,15 @@ window-next v ws w t i f l h p q₁ q₂ q₃ q₄ q₅ =
 -- it is laid at place i
 pub window-renew : (ws w : List ℕ) (t i x : ℕ) → length w ≡ 16 → i < 16 → Window ws w t i → x ≡ getD ws (t + i + 16) 0 → Window ws (set w i x) t (i + 1)
 unfolding Window
-window-renew ws w t i x l h p q j k = ⊎-elim kept over (below-or-not j 15)
+window-renew ws w t i x l h p q j k = byCases (eqb j 15) (λ b. over (eqb-true j 15 b)) (λ b. kept (eqb-false j 15 b))
   where
-    below-or-not : (a b : ℕ) → (a < b) ⊎ (b ≤ a)
-    below-or-not a b = elim (decLt a b) [ yes r ↦ inl r | no r ↦ inr (omega arith) ]
-
-    kept : j < 15 → getD (set w i x) ((i + 1 + j) % 16) 0 ≡ getD ws (t + (i + 1) + j) 0
+    kept : j ≢ 15 → getD (set w i x) ((i + 1 + j) % 16) 0 ≡ getD ws (t + (i + 1) + j) 0
     kept r =
         let e : i + 1 + j ≡ i + (j + 1) = omega arith in
         let f : t + i + (j + 1) ≡ t + (i + 1) + j = omega arith in
         getD-set-other w i ((i + 1 + j) % 16) x 0 (λ g. absurd (omega arith)) ∙ rw e (p (j + 1) (omega arith)) ∙ ap (λ (m : ℕ). getD ws m 0) f
 
-    over : 15 ≤ j → getD (set w i x) ((i + 1 + j) % 16) 0 ≡ getD ws (t + (i + 1) + j) 0
+    over : j ≡ 15 → getD (set w i x) ((i + 1 + j) % 16) 0 ≡ getD ws (t + (i + 1) + j) 0
     over r =
         let e : (i + 1 + j) % 16 ≡ i = omega arith in
         let f : t + i + 16 ≡ t + (i + 1) + j = omega arith in
