@@ -29,16 +29,12 @@ entryRows desk path buffer =
     ∷ (not (eqb (length path) (pathLen (sizesOf desk)) && eqb (length buffer) recordLen), BadLength)
     ∷ []
 
-abbrev pub pathRows : Means → List ℕ → List ℕ → List (Bool × Refusal)
-pathRows m desk path =
-    (not (genuine m desk path), Forged)
-    ∷ (worn m desk path, Worn)
-    ∷ (ltb (roomOf desk) (length (newStash m desk path)), Full)
-    ∷ []
-
--- the last of them, which is known once the blocks are placed
+-- the last of them is known once the blocks are placed
 abbrev pub fullRows : Means → List ℕ → List ℕ → List (Bool × Refusal)
 fullRows m desk path = (ltb (roomOf desk) (length (newStash m desk path)), Full) ∷ []
+
+abbrev pub pathRows : Means → List ℕ → List ℕ → List (Bool × Refusal)
+pathRows m desk path = (not (genuine m desk path), Forged) ∷ (worn m desk path, Worn) ∷ fullRows m desk path
 
 abbrev pub finishRows : Means → List ℕ → List ℕ → List ℕ → List (Bool × Refusal)
 finishRows m desk path buffer = entryRows desk path buffer ++ pathRows m desk path
