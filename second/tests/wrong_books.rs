@@ -140,7 +140,7 @@ impl Habits {
         }
         match answer {
             RECORD => Ok((self.column)(chapter, &record)),
-            1.. => Ok(self.never),
+            2.. => Ok(self.never),
             _ if self.stops => Err(answer),
             _ => Ok(BAD),
         }

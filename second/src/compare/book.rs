@@ -92,12 +92,20 @@ fn keep(pair: &mut Pair, random: &mut Random, sizes: Sizes, sort: Sort) -> Resul
         going = book.turn(pair, random)?;
     }
     if going && sort == Sort::Wide {
-        let whole = book.whole(sizes.ids, book.chapter);
-        book.honest(pair, random, whole)?;
+        book.honest(pair, random, whole(sizes.ids, book.chapter))?;
     }
     book.disturbed(pair, random)?;
     pair.lend_tree(&[]);
     Ok(())
+}
+
+/// A row over all ids.
+fn whole(ids: u16, chapter: u8) -> Asked {
+    Asked {
+        chapter,
+        first: 1,
+        end: ids + 1,
+    }
 }
 
 impl Book {
@@ -167,15 +175,6 @@ impl Book {
         Ok(true)
     }
 
-    /// A row over all ids.
-    fn whole(&self, ids: u16, chapter: u8) -> Asked {
-        Asked {
-            chapter,
-            first: 1,
-            end: ids + 1,
-        }
-    }
-
     /// Some of the written ids and perhaps some beside them; seldom all.
     fn some_row(&self, pair: &Pair, random: &mut Random) -> Asked {
         let drawn = random.byte();
@@ -184,7 +183,7 @@ impl Book {
         let (path, ids) = (self.shape.path_length(), pair.sizes.ids);
         let few = path * usize::from(ids) <= 400_000;
         if few && random.once_in(8) {
-            return self.whole(ids, chapter);
+            return whole(ids, chapter);
         }
         // The longer the paths, the shorter the row.
         let most = (100_000 / path).clamp(1, 64) as u16;
