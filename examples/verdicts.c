@@ -78,7 +78,7 @@ static void read_verdict(uint16_t id, uint16_t draw)
         return;
     }
     int32_t verdict = bawnaroy_verdict_read(buffer, sizeof buffer, said);
-    /* A name of full length has no zero behind it, so its length is printed by. */
+    /* A name of full length has no zero behind it, so its length is what ends it. */
     printf("case %d: %s, %.*s, chapter %d of %d\n", id, word(verdict), said[2], (const char *)buffer + 4, said[0],
            said[1]);
 }

@@ -32,14 +32,14 @@ extern "C" {
 /*
  * Refusals: what each function answers instead, negative. The first that applies is given, in the order that the
  * function names. A refusal changes no byte of any buffer; FORGED, WORN and FULL change one byte of the desk, its
- * status, and from then on the desk answers STOPPED. A row is several requests: the refusal that ends it changes no
- * more than this within its own request, and what the requests before it did stays.
+ * status, and from then on the desk answers STOPPED. bawnaroy_row alone is many calls in one: where one of them is
+ * refused, this holds of that call, and what the calls before it did stays.
  */
 #define BAWNAROY_BAD_DESK (-1)   /* not a good desk */
 #define BAWNAROY_STOPPED (-2)    /* the desk stopped as forged, worn or full */
 #define BAWNAROY_OPEN (-3)       /* asked while a request is open */
 #define BAWNAROY_NOT_OPEN (-4)   /* finished while none is */
-#define BAWNAROY_BAD_ID (-5)     /* id 0, or above the desk's number of ids; a range with no ids or such ones */
+#define BAWNAROY_BAD_ID (-5)     /* id 0, or above the desk's number of ids; an empty or backward range */
 #define BAWNAROY_BAD_LEAF (-6)   /* a leaf of 2^height or more */
 #define BAWNAROY_BAD_LENGTH (-7) /* a buffer has another length than its exact one */
 #define BAWNAROY_BAD_SIZE (-8)   /* height, slots or ids out of range */
@@ -138,13 +138,14 @@ int32_t bawnaroy_verdict_make(uint8_t *record, size_t record_len, uint8_t verdic
  * Adds up a row of the matrix: reads the ids from first up to, not including, end through the store, rising, each by
  * one whole request over the tree (ask, fetch, finish, put) with the next of the draws, one freshly drawn leaf for each
  * id. Answers COMPLETE or INCOMPLETE, and counts then holds how many of the ids passed, failed, and so on. A chapter
- * above 31 is taken; every record is of another one. The leaves asked for follow from the range and the draws before,
- * never from what the records hold.
+ * above 31 is taken; every record is then of another one. The leaves asked for are those last drawn for the ids of the
+ * range, whatever the records hold.
  *
- * Before any ask it refuses with BAD_DESK; BAD_ID unless first is at least 1, first is below end and end is at most the
- * desk's number of ids plus 1; BAD_LENGTH (draws, tree); then nothing has changed. A refusal within a request (STOPPED,
- * OPEN, BAD_LEAF, FORGED, WORN, FULL) ends the row: desk and tree stay as the requests before it left them, and FORGED,
- * WORN and FULL leave the request open in a desk that has stopped. After any refusal counts is as it was.
+ * Refusals before any ask, which change nothing: BAD_DESK; BAD_ID unless first is at least 1, first is below end and
+ * end is at most the desk's number of ids plus 1; BAD_LENGTH (draws, tree). Then those of the requests end the row:
+ * STOPPED and OPEN at the first ask, BAD_LEAF at the ask with that draw, FORGED, WORN and FULL at a finish. The
+ * requests before are done and stay so in desk and tree; after FORGED, WORN and FULL the desk also keeps the request
+ * that was asked, at the status that it stopped with. After every refusal counts is as it was.
  */
 int32_t bawnaroy_row(uint8_t *desk, size_t desk_len, uint8_t *tree, size_t tree_len, uint8_t chapter, uint16_t first,
                      uint16_t end, const uint16_t *draws, size_t draws_len, uint16_t counts[BAWNAROY_COUNTS]);

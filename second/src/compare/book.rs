@@ -71,6 +71,7 @@ struct Book {
     end: u16,
 }
 
+/// Keeps a book until its calls are made or it is full for good.
 fn keep(pair: &mut Pair, random: &mut Random, sizes: Sizes, sort: Sort) -> Result<(), Mismatch> {
     let shape = server::formatted(pair, random, sizes)?;
     let ids = u64::from(sizes.ids);
