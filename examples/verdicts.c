@@ -1,5 +1,6 @@
 /*
- * A small store from C: two cases get a verdict, three are looked up, and the one that nobody wrote answers never.
+ * A small verdict book from C: two cases get a verdict, three are looked up, and the one that nobody wrote answers
+ * never. Then rows of the matrix: a case that was not run leaves its row incomplete, whatever the others say.
  *
  * The draws are fixed so that the output can be compared. A real host draws each leaf afresh and unpredictably.
  */
@@ -9,7 +10,7 @@
 
 #include "bawnaroy.h"
 
-enum { HEIGHT = 2, SLOTS = 1, STASH = 4, IDS = 3 };
+enum { HEIGHT = 2, SLOTS = 1, STASH = 4, IDS = 3, CHAPTER = 7, YEAR = 2026 };
 
 static uint8_t *desk, *tree, *path;
 static size_t desk_length, tree_length, path_length;
@@ -49,23 +50,51 @@ static int32_t finished(int32_t leaf, uint8_t record[BAWNAROY_RECORD_LENGTH])
     return answer;
 }
 
-static void write_verdict(uint16_t id, uint16_t draw, const char *text)
+static const char *word(int32_t verdict)
 {
-    uint8_t record[BAWNAROY_RECORD_LENGTH] = {0};
+    static const char *const words[] = {"bad", "pass", "fail", "skipped", "error"};
+    return words[verdict];
+}
+
+static void write_verdict(uint16_t id, uint16_t draw, uint8_t verdict, const char *name)
+{
+    uint8_t record[BAWNAROY_RECORD_LENGTH];
     uint8_t buffer[BAWNAROY_RECORD_LENGTH] = {0};
-    memcpy(record, text, strlen(text));
+    if (!bawnaroy_verdict_make(record, sizeof record, verdict, CHAPTER, YEAR, (const uint8_t *)name, strlen(name))) {
+        fputs("not a verdict\n", stderr);
+        exit(1);
+    }
     finished(bawnaroy_ask_write(desk, desk_length, id, draw, record, sizeof record), buffer);
-    printf("case %d: wrote %s\n", id, text);
+    printf("case %d: wrote %s, %s\n", id, word(verdict), name);
 }
 
 static void read_verdict(uint16_t id, uint16_t draw)
 {
     uint8_t buffer[BAWNAROY_RECORD_LENGTH] = {0};
+    uint16_t said[3] = {0};
     int32_t answer = finished(bawnaroy_ask_read(desk, desk_length, id, draw), buffer);
-    if (answer == BAWNAROY_RECORD)
-        printf("case %d: %.64s\n", id, (const char *)buffer);
-    else if (answer == BAWNAROY_NEVER)
+    if (answer == BAWNAROY_NEVER) {
         printf("case %d: never\n", id);
+        return;
+    }
+    int32_t verdict = bawnaroy_verdict_read(buffer, sizeof buffer, said);
+    /* A name of full length has no zero behind it, so its length is what ends it. */
+    printf("case %d: %s, %.*s, chapter %d of %d\n", id, word(verdict), said[2], (const char *)buffer + 4, said[0],
+           said[1]);
+}
+
+/* A row of the matrix: the cases from first up to, not including, end. */
+static void print_row(uint8_t chapter, uint16_t first, uint16_t end, const uint16_t *draws)
+{
+    uint16_t counts[BAWNAROY_COUNTS] = {0};
+    int32_t answer =
+        bawnaroy_row(desk, desk_length, tree, tree_length, chapter, first, end, draws, (size_t)(end - first), counts);
+    if (answer < 0)
+        refused("row", answer);
+    printf("chapter %d, cases %d to %d: passed %d, failed %d, skipped %d, errors %d, bad %d, not run %d: %s\n", chapter,
+           first, end - 1, counts[BAWNAROY_COUNT_PASSED], counts[BAWNAROY_COUNT_FAILED], counts[BAWNAROY_COUNT_SKIPPED],
+           counts[BAWNAROY_COUNT_ERRORS], counts[BAWNAROY_COUNT_BAD], counts[BAWNAROY_COUNT_NOT_RUN],
+           answer == BAWNAROY_COMPLETE ? "complete" : "incomplete");
 }
 
 int main(void)
@@ -83,11 +112,15 @@ int main(void)
     int32_t code = bawnaroy_format(desk, desk_length, HEIGHT, SLOTS, STASH, IDS, key, sizeof key, starts, IDS);
     if (code < 0)
         refused("format", code);
-    write_verdict(1, 2, "PASS");
-    write_verdict(2, 0, "FAIL timeout");
+    write_verdict(1, 2, BAWNAROY_PASS, "open then close");
+    write_verdict(2, 0, BAWNAROY_FAIL, "timeout");
     read_verdict(1, 1);
     read_verdict(2, 3);
     read_verdict(3, 2);
+    const uint16_t draws[IDS] = {0, 3, 1};
+    print_row(CHAPTER, 1, 4, draws);
+    print_row(CHAPTER, 1, 2, draws);
+    print_row(CHAPTER + 1, 1, 4, draws);
     /* A byte altered on the server is noticed, and the store stops. */
     tree[9] ^= 1;
     int32_t leaf = bawnaroy_ask_read(desk, desk_length, 1, 0);

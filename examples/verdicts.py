@@ -1,4 +1,5 @@
-"""A small store from Python by ctypes: two cases get a verdict, three are looked up, and the one that nobody wrote answers never.
+"""A small verdict book from Python by ctypes: two cases get a verdict, three are looked up, and the one that nobody wrote answers never.
+Then rows of the matrix: a case that was not run leaves its row incomplete, whatever the others say.
 
 Usage: verdicts.py LIBRARY, a shared library made of libexports.a.
 The draws are fixed so that the output can be compared. A real host draws each leaf afresh and unpredictably.
@@ -8,8 +9,13 @@ import ctypes
 import sys
 
 HEIGHT, SLOTS, STASH, IDS = 2, 1, 4, 3
+CHAPTER, YEAR = 7, 2026
 RECORD_LENGTH = 64
 RECORD, NEVER, DONE, FORGED = 1, 2, 3, -9
+PASS, FAIL = 1, 2
+VERDICTS = "bad", "pass", "fail", "skipped", "error"
+COUNTS = "passed", "failed", "skipped", "errors", "bad", "not run"
+COMPLETE = 1
 
 
 class Store:
@@ -50,26 +56,50 @@ class Store:
         if answer < 0:
             return answer, None
         self.taken("put", self.c.bawnaroy_put(*self.whole(self.tree), *side, *self.whole(self.path)))
-        return answer, record.raw.split(b"\0")[0].decode() if answer == RECORD else None
+        return answer, record if answer == RECORD else None
 
-    def write(self, ident, draw, text):
-        record = text.encode().ljust(RECORD_LENGTH, b"\0")
-        leaf = self.taken("ask", self.c.bawnaroy_ask_write(
-            *self.whole(self.desk), ident, draw, record, ctypes.c_size_t(len(record))))
+    def write(self, ident, draw, verdict, name):
+        record = ctypes.create_string_buffer(RECORD_LENGTH)
+        if not self.c.bawnaroy_verdict_make(
+                *self.whole(record), verdict, CHAPTER, YEAR, name.encode(), ctypes.c_size_t(len(name.encode()))):
+            raise SystemExit("not a verdict")
+        leaf = self.taken("ask", self.c.bawnaroy_ask_write(*self.whole(self.desk), ident, draw, *self.whole(record)))
         return self.finished(leaf)
 
     def read(self, ident, draw):
         return self.finished(self.taken("ask", self.c.bawnaroy_ask_read(*self.whole(self.desk), ident, draw)))
 
+    def said(self, record):
+        """What a record says, in words."""
+        said = (ctypes.c_uint16 * 3)()
+        verdict = self.c.bawnaroy_verdict_read(*self.whole(record), said)
+        chapter, year, length = said
+        return f"{VERDICTS[verdict]}, {record.raw[4:4 + length].decode()}, chapter {chapter} of {year}"
+
+    def row(self, chapter, first, end, draws):
+        """A row of the matrix: the cases from first up to, not including, end."""
+        counts = (ctypes.c_uint16 * len(COUNTS))()
+        drawn = (ctypes.c_uint16 * len(draws))(*draws)
+        answer = self.taken("row", self.c.bawnaroy_row(
+            *self.whole(self.desk), *self.whole(self.tree), chapter, first, end,
+            drawn, ctypes.c_size_t(len(draws)), counts))
+        return answer == COMPLETE, list(counts)
+
 
 def main():
     store = Store(sys.argv[1], bytes(range(32)), (3, 0, 1))
-    for ident, draw, text in ((1, 2, "PASS"), (2, 0, "FAIL timeout")):
-        store.write(ident, draw, text)
-        print(f"case {ident}: wrote {text}")
+    for ident, draw, verdict, name in ((1, 2, PASS, "open then close"), (2, 0, FAIL, "timeout")):
+        store.write(ident, draw, verdict, name)
+        print(f"case {ident}: wrote {VERDICTS[verdict]}, {name}")
     for ident, draw in ((1, 1), (2, 3), (3, 2)):
-        answer, text = store.read(ident, draw)
-        print(f"case {ident}:", "never" if answer == NEVER else text)
+        answer, record = store.read(ident, draw)
+        print(f"case {ident}:", "never" if answer == NEVER else store.said(record))
+    draws = (0, 3, 1)
+    for chapter, first, end in ((CHAPTER, 1, 4), (CHAPTER, 1, 2), (CHAPTER + 1, 1, 4)):
+        complete, counts = store.row(chapter, first, end, draws[:end - first])
+        columns = ", ".join(f"{name} {count}" for name, count in zip(COUNTS, counts))
+        print(f"chapter {chapter}, cases {first} to {end - 1}: {columns}: {'complete' if complete else 'incomplete'}")
+    # A byte altered on the server is noticed, and the store stops.
     store.tree[9] = bytes([store.tree.raw[9] ^ 1])
     if store.read(1, 0)[0] == FORGED:
         print("case 1: forged, and the store stops")

@@ -9,6 +9,9 @@
  *     answer = bawnaroy_finish(desk, path, ..);  trusted side: checks the path whole, answers, rewrites it
  *     bawnaroy_put(tree, .., leaf, path, ..);    server: copies the path back
  *
+ * Above the store lies the verdict book: records that hold a verdict, and rows that read a range of them through the
+ * store and add them up.
+ *
  * Every function takes all inputs: forged desks and paths, any numbers, any lengths. A buffer is a pointer and a
  * length in elements; with a length of 0 any pointer will do. Buffers of one call must not overlap. No function
  * keeps a pointer, allocates, or reads or writes outside the buffers that it is lent. Calls on different buffers
@@ -29,13 +32,14 @@ extern "C" {
 /*
  * Refusals: what each function answers instead, negative. The first that applies is given, in the order that the
  * function names. A refusal changes no byte of any buffer; FORGED, WORN and FULL change one byte of the desk, its
- * status, and from then on the desk answers STOPPED.
+ * status, and from then on the desk answers STOPPED. bawnaroy_row alone is many calls in one: where one of them is
+ * refused, this holds of that call, and what the calls before it did stays.
  */
 #define BAWNAROY_BAD_DESK (-1)   /* not a good desk */
 #define BAWNAROY_STOPPED (-2)    /* the desk stopped as forged, worn or full */
 #define BAWNAROY_OPEN (-3)       /* asked while a request is open */
 #define BAWNAROY_NOT_OPEN (-4)   /* finished while none is */
-#define BAWNAROY_BAD_ID (-5)     /* id 0, or above the desk's number of ids */
+#define BAWNAROY_BAD_ID (-5)     /* id 0, or above the desk's number of ids; an empty or backward range */
 #define BAWNAROY_BAD_LEAF (-6)   /* a leaf of 2^height or more */
 #define BAWNAROY_BAD_LENGTH (-7) /* a buffer has another length than its exact one */
 #define BAWNAROY_BAD_SIZE (-8)   /* height, slots or ids out of range */
@@ -90,6 +94,61 @@ int32_t bawnaroy_fetch(const uint8_t *tree, size_t tree_len, uint8_t height, uin
                        uint8_t *path, size_t path_len);
 int32_t bawnaroy_put(uint8_t *tree, size_t tree_len, uint8_t height, uint8_t slots, uint16_t leaf,
                      const uint8_t *path, size_t path_len);
+
+/*
+ * A verdict in a record: byte 0 the verdict, byte 1 the chapter (0 to 31), bytes 2 and 3 the suite year (little-endian,
+ * any number), and from byte 4 on the case's name of 0 to 60 bytes, then zeros to the end. A record is bad if its
+ * verdict or chapter is none of these, if its name has a zero byte inside, or if it is not 64 bytes long.
+ */
+#define BAWNAROY_PASS 1
+#define BAWNAROY_FAIL 2
+#define BAWNAROY_SKIPPED 3
+#define BAWNAROY_ERROR 4 /* 0 is none of them, and means bad */
+
+#define BAWNAROY_NAME_LENGTH 60 /* the most; a name of that length has no zero behind it */
+
+/*
+ * Reads a record. Answers its verdict, 1 to 4, and said then holds the chapter, the suite year and the length of the
+ * name, which stands in the record from byte 4 on; or answers 0 for a bad record, and said is as it was.
+ */
+int32_t bawnaroy_verdict_read(const uint8_t *record, size_t record_len, uint16_t said[3]);
+
+/*
+ * Makes a record. Answers the verdict, and record (64 bytes) then holds it; or answers 0, and record is as it was: if
+ * the verdict is not 1 to 4, the chapter is above 31, the name is longer than 60 bytes or has a zero byte in it (such
+ * a record could not be read back), or if record is not 64 bytes long.
+ */
+int32_t bawnaroy_verdict_make(uint8_t *record, size_t record_len, uint8_t verdict, uint8_t chapter, uint16_t year,
+                              const uint8_t *name, size_t name_len);
+
+/* What a row answers. 0 is none of them, so that memory nobody wrote is never a row. */
+#define BAWNAROY_COMPLETE 1   /* every id of the range has passed */
+#define BAWNAROY_INCOMPLETE 2 /* counted, and some have not */
+
+/* The places in a row's counts. Each id of the range is counted in one of them. */
+#define BAWNAROY_COUNT_PASSED 0
+#define BAWNAROY_COUNT_FAILED 1
+#define BAWNAROY_COUNT_SKIPPED 2
+#define BAWNAROY_COUNT_ERRORS 3
+#define BAWNAROY_COUNT_BAD 4     /* the record is bad, or of another chapter */
+#define BAWNAROY_COUNT_NOT_RUN 5 /* the id was never written */
+#define BAWNAROY_COUNTS 6        /* how many there are */
+
+/*
+ * Adds up a row of the matrix: reads the ids from first up to, not including, end through the store, rising, each by
+ * one whole request over the tree (ask, fetch, finish, put) with the next of the draws, one freshly drawn leaf for each
+ * id. Answers COMPLETE or INCOMPLETE, and counts then holds how many of the ids passed, failed, and so on. A chapter
+ * above 31 is taken; every record is then of another one. The leaves asked for are those last drawn for the ids of the
+ * range, whatever the records hold.
+ *
+ * Refusals before any ask, which change nothing: BAD_DESK; BAD_ID unless first is at least 1, first is below end and
+ * end is at most the desk's number of ids plus 1; BAD_LENGTH (draws, tree). Then those of the requests end the row:
+ * STOPPED and OPEN at the first ask, BAD_LEAF at the ask with that draw, FORGED, WORN and FULL at a finish. The
+ * requests before are done and stay so in desk and tree; after FORGED, WORN and FULL the desk also keeps the request
+ * that was asked, at the status that it stopped with. After every refusal counts is as it was.
+ */
+int32_t bawnaroy_row(uint8_t *desk, size_t desk_len, uint8_t *tree, size_t tree_len, uint8_t chapter, uint16_t first,
+                     uint16_t end, const uint16_t *draws, size_t draws_len, uint16_t counts[BAWNAROY_COUNTS]);
 
 /* SHA-256 of msg (FIPS 180-4), and text combined with the ChaCha20 keystream from block 0 on (RFC 8439), in place. */
 void bawnaroy_sha256(const uint8_t *msg, size_t len, uint8_t out[32]);

@@ -1,6 +1,7 @@
 //! The proved static library behind its C interface.
 
 use crate::format::Sizes;
+use crate::row::{Asked, Counts};
 use crate::store::Store;
 
 extern "C" {
@@ -56,6 +57,28 @@ extern "C" {
     fn bawnaroy_tree_length(height: u8, slots: u8) -> usize;
     fn bawnaroy_sha256(msg: *const u8, len: usize, out: *mut u8);
     fn bawnaroy_chacha20(key: *const u8, nonce: *const u8, text: *mut u8, len: usize);
+    fn bawnaroy_verdict_read(record: *const u8, record_len: usize, said: *mut u16) -> i32;
+    fn bawnaroy_verdict_make(
+        record: *mut u8,
+        record_len: usize,
+        verdict: u8,
+        chapter: u8,
+        year: u16,
+        name: *const u8,
+        name_len: usize,
+    ) -> i32;
+    fn bawnaroy_row(
+        desk: *mut u8,
+        desk_len: usize,
+        tree: *mut u8,
+        tree_len: usize,
+        chapter: u8,
+        first: u16,
+        end: u16,
+        draws: *const u16,
+        draws_len: usize,
+        counts: *mut u16,
+    ) -> i32;
 }
 
 /// The library. Every call below hands over whole slices with their own
@@ -130,5 +153,54 @@ impl Store for Library {
 
     fn chacha20(&self, key: &[u8; 32], nonce: &[u8; 12], text: &mut [u8]) {
         unsafe { bawnaroy_chacha20(key.as_ptr(), nonce.as_ptr(), text.as_mut_ptr(), text.len()) }
+    }
+
+    fn verdict_read(&self, record: &[u8], said: &mut [u16; 3]) -> i32 {
+        unsafe { bawnaroy_verdict_read(record.as_ptr(), record.len(), said.as_mut_ptr()) }
+    }
+
+    fn verdict_make(
+        &self,
+        record: &mut [u8],
+        verdict: u8,
+        chapter: u8,
+        year: u16,
+        name: &[u8],
+    ) -> i32 {
+        unsafe {
+            bawnaroy_verdict_make(
+                record.as_mut_ptr(),
+                record.len(),
+                verdict,
+                chapter,
+                year,
+                name.as_ptr(),
+                name.len(),
+            )
+        }
+    }
+
+    fn row(
+        &self,
+        desk: &mut [u8],
+        tree: &mut [u8],
+        asked: Asked,
+        draws: &[u16],
+        counts: &mut Counts,
+    ) -> i32 {
+        unsafe {
+            bawnaroy_row(
+                desk.as_mut_ptr(),
+                desk.len(),
+                tree.as_mut_ptr(),
+                tree.len(),
+                asked.chapter,
+                asked.first,
+                asked.end,
+                draws.as_ptr(),
+                draws.len(),
+                counts.as_mut_ptr(),
+            )
+        }
     }
 }

@@ -2,11 +2,13 @@
 
 use crate::answer::{Answer, Refusal};
 use crate::format::Sizes;
+use crate::row::{Asked, Counts};
 use crate::sizes::Shape;
-use crate::{ask, chacha20, finish, format, sha256, sizes, tree};
+use crate::verdict::{Said, Verdict};
+use crate::{ask, chacha20, finish, format, row, sha256, sizes, tree, verdict};
 
 /// One side of a comparison. Answers are numbers as in the C interface: a
-/// refusal is its number, negative.
+/// refusal is its number, negative, and a bad verdict is 0.
 pub trait Store {
     fn format(&self, desk: &mut [u8], sizes: Sizes, key: &[u8], leaves: &[u16]) -> i32;
     fn ask_read(&self, desk: &mut [u8], id: u16, leaf: u16) -> i32;
@@ -19,7 +21,28 @@ pub trait Store {
     fn tree_length(&self, height: u8, slots: u8) -> usize;
     fn sha256(&self, message: &[u8], out: &mut [u8; 32]);
     fn chacha20(&self, key: &[u8; 32], nonce: &[u8; 12], text: &mut [u8]);
+    /// What is said: chapter, suite year and length of the name.
+    fn verdict_read(&self, record: &[u8], said: &mut [u16; 3]) -> i32;
+    fn verdict_make(
+        &self,
+        record: &mut [u8],
+        verdict: u8,
+        chapter: u8,
+        year: u16,
+        name: &[u8],
+    ) -> i32;
+    fn row(
+        &self,
+        desk: &mut [u8],
+        tree: &mut [u8],
+        asked: Asked,
+        draws: &[u16],
+        counts: &mut Counts,
+    ) -> i32;
 }
+
+pub const COMPLETE: i32 = 1;
+pub const INCOMPLETE: i32 = 2;
 
 /// The second program.
 pub struct Second;
@@ -79,5 +102,58 @@ impl Store for Second {
 
     fn chacha20(&self, key: &[u8; 32], nonce: &[u8; 12], text: &mut [u8]) {
         chacha20::chacha20(key, nonce, 0, text);
+    }
+
+    fn verdict_read(&self, record: &[u8], said: &mut [u16; 3]) -> i32 {
+        let Some(read) = verdict::read(record) else {
+            return 0;
+        };
+        *said = [u16::from(read.chapter), read.year, read.name.len() as u16];
+        read.verdict as i32
+    }
+
+    fn verdict_make(
+        &self,
+        record: &mut [u8],
+        verdict: u8,
+        chapter: u8,
+        year: u16,
+        name: &[u8],
+    ) -> i32 {
+        let made = Verdict::numbered(verdict).and_then(|verdict| {
+            verdict::make(Said {
+                verdict,
+                chapter,
+                year,
+                name,
+            })
+        });
+        match made {
+            Some(made) if record.len() == made.len() => {
+                record.copy_from_slice(&made);
+                i32::from(verdict)
+            }
+            _ => 0,
+        }
+    }
+
+    fn row(
+        &self,
+        desk: &mut [u8],
+        tree: &mut [u8],
+        asked: Asked,
+        draws: &[u16],
+        counts: &mut Counts,
+    ) -> i32 {
+        match row::row(desk, tree, asked, draws) {
+            Ok(found) => {
+                *counts = found;
+                match asked.is_complete(&found) {
+                    true => COMPLETE,
+                    false => INCOMPLETE,
+                }
+            }
+            Err(refusal) => refusal.answer(),
+        }
     }
 }

@@ -2,6 +2,7 @@
 
 mod openssl;
 mod requests;
+mod rows;
 mod speed;
 
 use crate::store::Store;
@@ -17,6 +18,7 @@ const RUNS: usize = 60;
 pub fn run(sides: &[Side]) {
     speed::run(sides);
     requests::run(sides);
+    rows::run(sides);
 }
 
 /// How long `work` takes.

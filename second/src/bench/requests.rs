@@ -8,7 +8,7 @@ use crate::store::Store;
 use std::hint::black_box;
 use std::time::Duration;
 
-const SIZES: [(u8, u8, u16, u8); 4] = [
+pub const SIZES: [(u8, u8, u16, u8); 4] = [
     (3, 4, 9, 20),
     (8, 4, 512, 64),
     (12, 4, 4096, 128),
@@ -19,15 +19,16 @@ const SIZES: [(u8, u8, u16, u8); 4] = [
 const PATH_BYTES: usize = 256 << 10;
 
 /// A store of one side with every id written and every item reachable.
-struct Warm {
-    store: &'static dyn Store,
-    shape: Shape,
+pub struct Warm {
+    pub store: &'static dyn Store,
+    pub shape: Shape,
     sizes: Sizes,
-    desk: Vec<u8>,
-    tree: Vec<u8>,
+    pub desk: Vec<u8>,
+    pub tree: Vec<u8>,
     path: Vec<u8>,
+    /// A pass of chapter 1.
     record: [u8; 64],
-    random: Random,
+    pub random: Random,
 }
 
 /// The times of one run, per request.
@@ -74,7 +75,7 @@ pub fn run(sides: &[Side]) {
     }
 }
 
-fn micros(duration: Duration) -> f64 {
+pub fn micros(duration: Duration) -> f64 {
     duration.as_secs_f64() * 1e6
 }
 
@@ -98,7 +99,7 @@ fn measure(sides: &[Side], sizes: Sizes) -> Vec<Times> {
 }
 
 impl Warm {
-    fn new(store: &'static dyn Store, sizes: Sizes) -> Warm {
+    pub fn new(store: &'static dyn Store, sizes: Sizes) -> Warm {
         let shape = sizes.shape().expect("sizes in range");
         let length = desk_length(sizes.ids, sizes.stash).expect("ids in range");
         let mut warm = Warm {
@@ -158,7 +159,8 @@ impl Warm {
         self.one(id, write)
     }
 
-    fn one(&mut self, id: u16, write: bool) -> Duration {
+    /// A read or write of `id`; hands back the time of its finish.
+    pub fn one(&mut self, id: u16, write: bool) -> Duration {
         let Shape { height, slots } = self.shape;
         let draw = self.random.below(u64::from(self.shape.leaves())) as u16;
         let asked = match write {

@@ -1,8 +1,11 @@
 //! The entries of a pair, counted by what they answer.
 
+use super::lent::Lent;
 use super::pair::{Mismatch, Pair};
+use super::tally::COLUMNS;
 use crate::desk;
 use crate::format::Sizes;
+use crate::row::Asked;
 
 fn refusal(answer: i32) -> &'static str {
     let names = [
@@ -27,6 +30,16 @@ fn name(answer: i32, accepted: &'static str) -> &'static str {
     } else {
         accepted
     }
+}
+
+fn verdict(answer: i32, bad: &'static str) -> &'static str {
+    [bad, "pass", "fail", "skipped", "error"][answer as usize]
+}
+
+/// The lent numbers, as many as the entry has.
+fn all<const N: usize>(numbers: &mut Lent<u16>) -> &mut [u16; N] {
+    let numbers = numbers.get_mut();
+    numbers.try_into().expect("as many as the entry has")
 }
 
 impl Pair<'_> {
@@ -92,6 +105,68 @@ impl Pair<'_> {
         })?;
         self.tally.reach("put", name(answer, "done"));
         Ok(answer)
+    }
+
+    /// Reads the lent input as a verdict.
+    pub fn verdict_read(&mut self) -> Result<i32, Mismatch> {
+        let answer = self.call("verdict_read", |store, lent| {
+            store.verdict_read(lent.input.get(), all(&mut lent.numbers))
+        })?;
+        self.tally.reach("verdict_read", verdict(answer, "bad"));
+        Ok(answer)
+    }
+
+    /// Makes a verdict in the lent record; the name is the lent input.
+    pub fn verdict_make(&mut self, number: u8, chapter: u8, year: u16) -> Result<i32, Mismatch> {
+        let answer = self.call("verdict_make", |store, lent| {
+            let (record, name) = (lent.record.get_mut(), lent.input.get());
+            store.verdict_make(record, number, chapter, year, name)
+        })?;
+        self.tally.reach("verdict_make", verdict(answer, "refused"));
+        Ok(answer)
+    }
+
+    /// Adds up a row over the lent desk and tree with the lent draws.
+    pub fn row(&mut self, asked: Asked) -> Result<i32, Mismatch> {
+        let status = self.stopped();
+        let root = |desk: &[u8]| desk.get(desk::ROOT_DIGEST).map(<[u8]>::to_vec);
+        let before = root(self.desk());
+        let answer = self.call("row", |store, lent| {
+            let (desk, tree) = (lent.desk.get_mut(), lent.tree.get_mut());
+            let counts = all(&mut lent.numbers);
+            store.row(desk, tree, asked, lent.draws.get(), counts)
+        })?;
+        let accepted = ["", "complete", "incomplete"][answer.max(0) as usize];
+        self.tally.reach("row", name(answer, accepted));
+        self.count_stopped("row, status", status, answer);
+        if answer > 0 {
+            self.count_row(asked);
+        } else if root(self.desk()) != before {
+            self.tally.reach("row, after a request", refusal(answer));
+        }
+        Ok(answer)
+    }
+
+    fn count_row(&mut self, asked: Asked) {
+        let counts = self.numbers().to_vec();
+        for (count, name) in counts.iter().zip(COLUMNS) {
+            if *count > 0 {
+                self.tally.reach("row, counted", name);
+            }
+        }
+        let with = [
+            (asked.first == 1, "first 1"),
+            (asked.end == self.sizes.ids + 1, "end N+1"),
+            (asked.length() == 1, "one id"),
+            (asked.length() > 255, "more than 255 ids"),
+            (asked.length() == 4096, "4,096 ids"),
+            (asked.chapter > 31 && counts[4] > 0, "a chapter above 31"),
+        ];
+        for (reached, name) in with {
+            if reached {
+                self.tally.reach("row, taken with", name);
+            }
+        }
     }
 
     /// How the lent desk was stopped, if it was.

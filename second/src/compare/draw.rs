@@ -50,6 +50,11 @@ pub fn leaf(random: &mut Random, shape: Shape) -> u16 {
     random.below(u64::from(shape.leaves())) as u16
 }
 
+/// Some leaves, drawn one by one.
+pub fn leaves(random: &mut Random, shape: Shape, count: usize) -> Vec<u16> {
+    (0..count).map(|_| leaf(random, shape)).collect()
+}
+
 /// A leaf of 2^L or more.
 pub fn bad_leaf(random: &mut Random, height: u8) -> u16 {
     let first = 1 << height;

@@ -26,7 +26,7 @@ pub fn history(pair: &mut Pair, random: &mut Random, number: u64) -> Result<(), 
 }
 
 /// Draws which of some arguments are bad: often none or one, else any.
-fn bad<const N: usize>(random: &mut Random) -> [bool; N] {
+pub fn bad<const N: usize>(random: &mut Random) -> [bool; N] {
     let one = random.index(N);
     match random.below(4) {
         0 => [false; N],
@@ -37,19 +37,19 @@ fn bad<const N: usize>(random: &mut Random) -> [bool; N] {
 
 /// The name of the one fault that there is. A fault behind the last name has
 /// a refusal of its own, and needs none.
-fn alone(bad: &[bool], names: &[&'static str]) -> Option<&'static str> {
+pub fn alone(bad: &[bool], names: &[&'static str]) -> Option<&'static str> {
     let single = bad.iter().filter(|bad| **bad).count() == 1;
     let place = bad.iter().position(|bad| *bad)?;
     names.get(place).copied().filter(|_| single)
 }
 
-fn junk(random: &mut Random, length: usize) -> Vec<u8> {
+pub fn junk(random: &mut Random, length: usize) -> Vec<u8> {
     let mut bytes = vec![0; length];
     random.fill(&mut bytes);
     bytes
 }
 
-fn exact_or_not(random: &mut Random, bad: bool, exact: usize) -> usize {
+pub fn exact_or_not(random: &mut Random, bad: bool, exact: usize) -> usize {
     if bad {
         draw::bad_length(random, exact)
     } else {

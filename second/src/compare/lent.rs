@@ -4,38 +4,51 @@
 //! away any alignment that an entry might count on.
 
 const GUARD: usize = 33;
-const GUARD_BYTE: u8 = 0xa5;
 
-#[derive(Clone, Default)]
-pub struct Lent {
-    bytes: Vec<u8>,
+/// What buffers are made of, and what their guards hold.
+pub trait Element: Copy + PartialEq {
+    const GUARD: Self;
 }
 
-impl Lent {
+impl Element for u8 {
+    const GUARD: u8 = 0xa5;
+}
+
+impl Element for u16 {
+    const GUARD: u16 = 0xa5a5;
+}
+
+#[derive(Clone, Default)]
+pub struct Lent<T = u8> {
+    elements: Vec<T>,
+}
+
+impl<T: Element> Lent<T> {
     /// Replaces the lent part.
-    pub fn set(&mut self, content: &[u8]) {
-        self.bytes.clear();
-        self.bytes.resize(GUARD, GUARD_BYTE);
-        self.bytes.extend_from_slice(content);
-        self.bytes.resize(GUARD + content.len() + GUARD, GUARD_BYTE);
+    pub fn set(&mut self, content: &[T]) {
+        let all = &mut self.elements;
+        all.clear();
+        all.resize(GUARD, T::GUARD);
+        all.extend_from_slice(content);
+        all.resize(GUARD + content.len() + GUARD, T::GUARD);
     }
 
-    pub fn get(&self) -> &[u8] {
-        &self.bytes[GUARD..self.bytes.len() - GUARD]
+    pub fn get(&self) -> &[T] {
+        &self.elements[GUARD..self.elements.len() - GUARD]
     }
 
-    pub fn get_mut(&mut self) -> &mut [u8] {
-        let end = self.bytes.len() - GUARD;
-        &mut self.bytes[GUARD..end]
+    pub fn get_mut(&mut self) -> &mut [T] {
+        let end = self.elements.len() - GUARD;
+        &mut self.elements[GUARD..end]
     }
 
-    /// The first byte in which two buffers differ, guards included: its place
-    /// in the lent part (negative before it) and the two values.
-    pub fn difference(&self, other: &Lent) -> Option<(i64, u8, u8)> {
-        if self.bytes == other.bytes {
+    /// The first element in which two buffers differ, guards included: its
+    /// place in the lent part (negative before it) and the two values.
+    pub fn difference(&self, other: &Lent<T>) -> Option<(i64, T, T)> {
+        if self.elements == other.elements {
             return None;
         }
-        let pairs = self.bytes.iter().zip(&other.bytes).enumerate();
+        let pairs = self.elements.iter().zip(&other.elements).enumerate();
         let mut differing = pairs.filter(|(_, (mine, its))| mine != its);
         let (place, (mine, its)) = differing.next()?;
         Some((place as i64 - GUARD as i64, *mine, *its))
@@ -48,13 +61,13 @@ mod tests {
 
     #[test]
     fn guards_are_compared() {
-        let mut one = Lent::default();
+        let mut one = Lent::<u8>::default();
         one.set(&[1, 2, 3]);
         let two = one.clone();
         assert_eq!(one.difference(&two), None);
-        one.bytes[GUARD + 3] = 0;
+        one.elements[GUARD + 3] = 0;
         assert_eq!(one.difference(&two), Some((3, 0, 0xa5)));
-        one.bytes[GUARD - 1] = 0;
+        one.elements[GUARD - 1] = 0;
         assert_eq!(one.difference(&two), Some((-1, 0, 0xa5)));
     }
 }

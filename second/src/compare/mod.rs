@@ -1,5 +1,6 @@
 //! Long random histories over the second program and the side under test.
 
+mod book;
 mod calls;
 mod desks;
 mod draw;
@@ -9,11 +10,13 @@ mod made;
 mod pair;
 mod paths;
 mod plain;
+mod rows;
 mod seal;
 mod server;
 mod spoil_desk;
 mod spoil_path;
 mod tally;
+mod verdicts;
 
 pub use pair::Mismatch;
 pub use tally::Tally;
@@ -24,18 +27,18 @@ use crate::store::Store;
 use pair::Pair;
 use server::Server;
 
-pub const DEFAULT_CALLS: u64 = 200_000;
+pub const DEFAULT_CALLS: u64 = 220_000;
 
 type History = fn(&mut Pair, &mut Random, u64) -> Result<(), Mismatch>;
 
-/// One sort of history, with its share of the calls in hundredths.
+/// One sort of history, with its share of the calls.
 pub struct Section {
     pub name: &'static str,
     share: u64,
     history: History,
 }
 
-pub const SECTIONS: [Section; 7] = [
+pub const SECTIONS: [Section; 8] = [
     Section {
         name: "plain",
         share: 2,
@@ -71,7 +74,22 @@ pub const SECTIONS: [Section; 7] = [
         share: 8,
         history: entries::history,
     },
+    Section {
+        name: "book",
+        share: 10,
+        history: book::history,
+    },
 ];
+
+/// All shares together.
+const WHOLE: u64 = {
+    let (mut sum, mut place) = (0, 0);
+    while place < SECTIONS.len() {
+        sum += SECTIONS[place].share;
+        place += 1;
+    }
+    sum
+};
 
 pub struct Config {
     pub seed: u64,
@@ -102,7 +120,7 @@ pub fn run(config: &Config, tested: &dyn Store, progress: &mut dyn FnMut(&str, u
         }
         let mut pair = Pair::new(tested, &mut report.tally, SMALLEST);
         pair.trace = config.trace;
-        let calls = (config.calls * section.share).div_ceil(100);
+        let calls = (config.calls * section.share).div_ceil(WHOLE);
         let result = run_section(
             &mut pair,
             section,

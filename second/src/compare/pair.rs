@@ -1,7 +1,7 @@
 //! The second program and the side under test, called alike, with every
 //! buffer compared after every call.
 
-use super::lent::Lent;
+use super::lent::{Element, Lent};
 use super::tally::Tally;
 use crate::format::Sizes;
 use crate::store::{Second, Store};
@@ -34,7 +34,8 @@ impl fmt::Display for Mismatch {
 }
 
 /// Everything that is lent to the entries of one side. `input` is a record to
-/// be written or a key, which no entry may change.
+/// be written or read, a name or a key, and no entry may change it or the
+/// draws. `numbers` is what a verdict says, or the counts of a row.
 #[derive(Clone, Default)]
 pub struct Buffers {
     pub desk: Lent,
@@ -42,6 +43,8 @@ pub struct Buffers {
     pub tree: Lent,
     pub record: Lent,
     pub input: Lent,
+    pub draws: Lent<u16>,
+    pub numbers: Lent<u16>,
 }
 
 impl Buffers {
@@ -54,12 +57,25 @@ impl Buffers {
             ("record", &self.record, &tested.record),
             ("input", &self.input, &tested.input),
         ];
-        buffers.into_iter().find_map(|(name, second, tested)| {
-            second.difference(tested).map(|(place, second, tested)| {
-                format!("{name} byte {place} is {tested}, the second program has {second}")
-            })
-        })
+        let bytes = buffers
+            .into_iter()
+            .find_map(|(name, second, tested)| told(name, "byte", second, tested));
+        bytes
+            .or_else(|| told("draws", "number", &self.draws, &tested.draws))
+            .or_else(|| told("numbers", "number", &self.numbers, &tested.numbers))
     }
+}
+
+/// Where one buffer differs.
+fn told<T: Element + fmt::Display>(
+    name: &str,
+    element: &str,
+    second: &Lent<T>,
+    tested: &Lent<T>,
+) -> Option<String> {
+    second.difference(tested).map(|(place, second, tested)| {
+        format!("{name} {element} {place} is {tested}, the second program has {second}")
+    })
 }
 
 pub struct Pair<'a> {
@@ -107,8 +123,16 @@ impl<'a> Pair<'a> {
         self.second.record.get()
     }
 
+    pub fn tree(&self) -> &[u8] {
+        self.second.tree.get()
+    }
+
+    pub fn numbers(&self) -> &[u16] {
+        self.second.numbers.get()
+    }
+
     /// Gives both sides the same content in one buffer.
-    pub fn lend(&mut self, buffer: fn(&mut Buffers) -> &mut Lent, content: &[u8]) {
+    pub fn lend<T: Element>(&mut self, buffer: fn(&mut Buffers) -> &mut Lent<T>, content: &[T]) {
         buffer(&mut self.second).set(content);
         buffer(&mut self.other).set(content);
     }
@@ -131,6 +155,14 @@ impl<'a> Pair<'a> {
 
     pub fn lend_input(&mut self, content: &[u8]) {
         self.lend(|buffers| &mut buffers.input, content);
+    }
+
+    pub fn lend_draws(&mut self, content: &[u16]) {
+        self.lend(|buffers| &mut buffers.draws, content);
+    }
+
+    pub fn lend_numbers(&mut self, content: &[u16]) {
+        self.lend(|buffers| &mut buffers.numbers, content);
     }
 
     pub fn save(&self) -> Saved {

@@ -3,6 +3,7 @@
 use super::draw;
 use super::pair::{Mismatch, Pair};
 use crate::desk::Desk;
+use crate::format::Sizes;
 use crate::random::Random;
 use crate::sizes::Shape;
 use std::collections::{HashMap, VecDeque};
@@ -56,6 +57,18 @@ fn start(
     server: Server,
 ) -> Result<History, Mismatch> {
     let sizes = draw::sizes(random, number, 12);
+    let shape = formatted(pair, random, sizes)?;
+    Ok(History {
+        shape,
+        server,
+        table: HashMap::new(),
+        hot: random.range(1, u64::from(sizes.ids)).min(80) as u16,
+        old: VecDeque::new(),
+    })
+}
+
+/// Lends a fresh desk, and a tree of zeros or junk.
+pub fn formatted(pair: &mut Pair, random: &mut Random, sizes: Sizes) -> Result<Shape, Mismatch> {
     draw::count_sizes(pair.tally, sizes);
     let shape = draw::shape(sizes);
     let mut tree = vec![0; shape.tree_length()];
@@ -71,13 +84,7 @@ fn start(
     pair.lend_input(&random.bytes::<32>());
     let starts: Vec<u16> = (0..sizes.ids).map(|_| draw::leaf(random, shape)).collect();
     pair.format(sizes, &starts)?;
-    Ok(History {
-        shape,
-        server,
-        table: HashMap::new(),
-        hot: random.range(1, u64::from(sizes.ids)).min(80) as u16,
-        old: VecDeque::new(),
-    })
+    Ok(shape)
 }
 
 impl History {

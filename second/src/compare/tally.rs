@@ -23,6 +23,28 @@ pub const FORMAT_REASONS: [&str; 6] = [
     "BadLength by key alone",
 ];
 pub const FINISH_REASONS: [&str; 2] = ["BadLength by path alone", "BadLength by record alone"];
+pub const READ_REASONS: [&str; 4] = [
+    "bad by verdict alone",
+    "bad by chapter alone",
+    "bad by name alone",
+    "bad by length alone",
+];
+pub const MAKE_REASONS: [&str; 5] = [
+    "refused by verdict alone",
+    "refused by chapter alone",
+    "refused by length of the name alone",
+    "refused by a zero in the name alone",
+    "refused by length of the record alone",
+];
+pub const RANGE_REASONS: [&str; 4] = [
+    "BadId by first 0 alone",
+    "BadId by an empty range",
+    "BadId by a backward range",
+    "BadId by end above N+1 alone",
+];
+pub const ROW_REASONS: [&str; 2] = ["BadLength by draws alone", "BadLength by tree alone"];
+/// What a row counts, in the order of its counts.
+pub const COLUMNS: [&str; 6] = ["passed", "failed", "skipped", "errors", "bad", "not run"];
 const STATUSES: &[&str] = &["stopped as forged", "stopped as worn", "stopped as full"];
 
 /// Everything that a whole run has to reach, by group.
@@ -116,14 +138,83 @@ const EXPECTED: &[(&str, &[&str])] = &[
     ),
     ("lengths", &["in range", "out of range"]),
     ("digest and cipher", &["digest", "cipher"]),
+    ("verdict_read", &["pass", "fail", "skipped", "error", "bad"]),
+    ("verdict_read, reason", &READ_REASONS),
+    (
+        "verdict_make",
+        &["pass", "fail", "skipped", "error", "refused"],
+    ),
+    ("verdict_make, reason", &MAKE_REASONS),
+    ("verdict, name", &["of 0 bytes", "of 60 bytes"]),
+    (
+        "row",
+        &[
+            "complete",
+            "incomplete",
+            "BadDesk",
+            "Stopped",
+            "Open",
+            "BadId",
+            "BadLeaf",
+            "BadLength",
+            "Forged",
+            "Worn",
+            "Full",
+        ],
+    ),
+    ("row, reason", &RANGE_REASONS),
+    ("row, reason", &ROW_REASONS),
+    ("row, status", STATUSES),
+    (
+        "row, order",
+        &[
+            "BadDesk before BadId",
+            "BadDesk before BadLength",
+            "BadId before BadLength",
+            "BadId before Stopped",
+            "BadId before Open",
+            "BadLength before Stopped",
+            "BadLength before Open",
+            "BadLength before BadLeaf",
+        ],
+    ),
+    (
+        "row, after a request",
+        &["BadLeaf", "Forged", "Worn", "Full"],
+    ),
+    ("row, counted", &COLUMNS),
+    (
+        "row, taken with",
+        &[
+            "first 1",
+            "end N+1",
+            "one id",
+            "more than 255 ids",
+            "4,096 ids",
+            "a chapter above 31",
+            "a record of another chapter",
+            "a record that is no verdict",
+        ],
+    ),
+    (
+        "row, server",
+        &[
+            "flipped byte of a tree refused",
+            "flipped byte of a tree never looked at",
+            "flipped byte of a desk refused",
+        ],
+    ),
 ];
 
 /// Groups with one counter for each condition of a desk or check of a path.
-const BAD_DESKS: [&str; 3] = [
+const BAD_DESKS: [&str; 4] = [
     "ask_read, bad desk",
     "ask_write, bad desk",
     "finish, bad desk",
+    "row, bad desk",
 ];
+/// The place of a row among them.
+pub const ROW: usize = 3;
 const FORGED: &str = "finish, forged alone by";
 
 pub struct Tally(BTreeMap<Key, u64>);

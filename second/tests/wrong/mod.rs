@@ -7,6 +7,7 @@ use second::desk::Desk;
 use second::format::Sizes;
 use second::found::Found;
 use second::good::is_good;
+use second::row::{Asked, Counts};
 use second::store::{Second, Store};
 
 type Format = dyn Fn(&mut [u8], Sizes, &[u8], &[u16]) -> i32;
@@ -18,6 +19,9 @@ type Put = dyn Fn(&mut [u8], u8, u8, u16, &[u8]) -> i32;
 type Length = dyn Fn(u16, u8) -> usize;
 type Digest = dyn Fn(&[u8], &mut [u8; 32]);
 type Cipher = dyn Fn(&[u8; 32], &[u8; 12], &mut [u8]);
+type VerdictRead = dyn Fn(&[u8], &mut [u16; 3]) -> i32;
+type VerdictMake = dyn Fn(&mut [u8], u8, u8, u16, &[u8]) -> i32;
+type Row = dyn Fn(&mut [u8], &mut [u8], Asked, &[u16], &mut Counts) -> i32;
 
 /// The second program with one entry or more exchanged.
 pub struct Wrong {
@@ -30,6 +34,9 @@ pub struct Wrong {
     pub desk_length: Box<Length>,
     pub digest: Box<Digest>,
     pub cipher: Box<Cipher>,
+    pub verdict_read: Box<VerdictRead>,
+    pub verdict_make: Box<VerdictMake>,
+    pub row: Box<Row>,
 }
 
 impl Default for Wrong {
@@ -44,6 +51,9 @@ impl Default for Wrong {
             desk_length: Box::new(|a, b| Second.desk_length(a, b)),
             digest: Box::new(|a, b| Second.sha256(a, b)),
             cipher: Box::new(|a, b, c| Second.chacha20(a, b, c)),
+            verdict_read: Box::new(|a, b| Second.verdict_read(a, b)),
+            verdict_make: Box::new(|a, b, c, d, e| Second.verdict_make(a, b, c, d, e)),
+            row: Box::new(|a, b, c, d, e| Second.row(a, b, c, d, e)),
         }
     }
 }
@@ -81,6 +91,29 @@ impl Store for Wrong {
     }
     fn chacha20(&self, key: &[u8; 32], nonce: &[u8; 12], text: &mut [u8]) {
         (self.cipher)(key, nonce, text);
+    }
+    fn verdict_read(&self, record: &[u8], said: &mut [u16; 3]) -> i32 {
+        (self.verdict_read)(record, said)
+    }
+    fn verdict_make(
+        &self,
+        record: &mut [u8],
+        verdict: u8,
+        chapter: u8,
+        year: u16,
+        name: &[u8],
+    ) -> i32 {
+        (self.verdict_make)(record, verdict, chapter, year, name)
+    }
+    fn row(
+        &self,
+        desk: &mut [u8],
+        tree: &mut [u8],
+        asked: Asked,
+        draws: &[u16],
+        counts: &mut Counts,
+    ) -> i32 {
+        (self.row)(desk, tree, asked, draws, counts)
     }
 }
 
