@@ -6,3 +6,4 @@ pub mod Counting
 pub mod OneRead
 pub mod Turns
 pub mod Passed
+pub mod Laws

@@ -15,6 +15,11 @@ pub mod Two
 pub mod TreeHolds
 pub mod Trees
 pub mod Requests
+pub mod BookRows
+pub mod TableRows
+pub mod HonestReads
+pub mod HonestRows
+pub mod RowsShown
 pub mod Room
 pub mod Exists
 pub mod More

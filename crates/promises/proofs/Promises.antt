@@ -10,6 +10,9 @@ use Rattle.promises.proofs.Two.{demand-two, demand-two-reachable}
 use Rattle.promises.proofs.Trees.{demand-two-tree}
 use Rattle.promises.proofs.Requests.{whole-requests}
 use Rattle.promises.proofs.Three.{demand-three, leaf-at, shown-once, shown-last-drawn}
+use Rattle.promises.proofs.BookRows.{any-row}
+use Rattle.promises.proofs.HonestRows.{honest-rows}
+use Rattle.promises.proofs.RowsShown.{three-with-rows}
 use Rattle.promises.proofs.Exists.{exists}
 use Rattle.promises.proofs.Wrong.{refusing-out, denying-out, idle-out, inventing-out, zeroing-out, zeroing-three}
 use Rattle.promises.proofs.Echo.{echoing-out}
@@ -38,11 +41,14 @@ promises m o =
       two-reachable = demand-two-reachable m o;
       two-tree = demand-two-tree m o;
       requests = whole-requests;
+      any-row = any-row;
+      honest-rows = honest-rows;
       three = demand-three m o m o;
       in-order = rearrange-order;
       shown-by-draws = λ n. leaf-at m o n;
       shown-once = shown-once m o;
       shown-last = shown-last-drawn m o;
+      three-with-rows = three-with-rows;
       exists = exists m o;
       shut-out = shut-out m o;
       figures = figures m;

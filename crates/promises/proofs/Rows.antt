@@ -17,6 +17,9 @@ use Rattle.promises.specs.DemandOne.{First, ByRows}
 abbrev at : List (Bool × Refusal) → ℕ → Bool × Refusal
 at rows i = getD rows i (false, BadDesk)
 
+same-refusal : (p q : Refusal) → Refused p ≡ Refused q → p ≡ q
+same-refusal p q e = cc
+
 first-of : (rows : List (Bool × Refusal)) (q : Refusal) → firstOf rows ≡ Refused q → First rows q
 first-of [] q h = absurd (not-refused q (sym h))
 first-of (row ∷ rows) q h =
@@ -28,9 +31,6 @@ first-of (row ∷ rows) q h =
     let f = first-of rows q (rw e at h) in
     record { row = suc (f .row); inside = omega (arith, f .inside); applies = f .applies; none-before = before e (f .row) (f .none-before) })
   where
-    same-refusal : (p q : Refusal) → Refused p ≡ Refused q → p ≡ q
-    same-refusal p q e = cc
-
     before : row .0 ≡ false → (n : ℕ) → ((i : ℕ) → i < n → at rows i .0 ≡ false) → (i : ℕ) → i < suc n → at (row ∷ rows) i .0 ≡ false
     before e n f zero l = e
     before e n f (suc i) l = f i (omega arith)
@@ -54,6 +54,18 @@ none-of (row ∷ rows) h i l =
 of-none : (rows : List (Bool × Refusal)) → ((i : ℕ) → i < length rows → at rows i .0 ≡ false) → firstOf rows ≡ Done
 of-none [] f = refl
 of-none (row ∷ rows) f = rw (f 0 (omega arith)) (of-none rows (λ i l. f (suc i) (omega arith)))
+
+-- rows none of which stops the store: their refusals have numbers below 9
+abbrev pub LowRows : List (Bool × Refusal) → Type 0
+LowRows [] = Unit {0}
+LowRows (row ∷ rows) = (numberOf (row .1) < 9) × LowRows rows
+
+pub low-refusal : (rows : List (Bool × Refusal)) → LowRows rows → (q : Refusal) → firstOf rows ≡ Refused q → numberOf q < 9
+low-refusal [] l q h = absurd (not-refused q (sym h))
+low-refusal (row ∷ rows) l q h =
+    byCases (row .0)
+    (λ e. let f : row .1 ≡ q = same-refusal (row .1) q (rw e at h) in rw f at (l .0))
+    (λ e. low-refusal rows (l .1) q (rw e at h))
 
 -- an answer that is refused exactly as the outcome of the rows is, and has its number
 pub reads : {A : Type 0} (rows : List (Bool × Refusal)) (answer : A) (refused : Refusal → A) (number : A → ℕ) (o : Outcome) → o ≡ firstOf rows

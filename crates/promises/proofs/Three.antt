@@ -50,8 +50,14 @@ start-positions b lent h =
 abbrev Sized : ℕ → List ℕ → Type 0
 Sized n desk = (idsOf desk ≡ n) × (roomOf desk < 256)
 
-abbrev Begins : List ℕ → List ℕ → Type 0
+abbrev pub Begins : List ℕ → List ℕ → Type 0
 Begins part whole = (r : List ℕ) × (part ++ r ≡ whole)
+
+pub begins-at : (part whole : List ℕ) → Begins part whole → (j : ℕ) → j < length part → getD part j 0 ≡ getD whole j 0
+begins-at part whole p j k = sym (List·getD-append part (p .0) 0 j k) ∙ ap (λ (ls : List ℕ). getD ls j 0) (p .1)
+
+pub begins-length : (part whole : List ℕ) → Begins part whole → length part ≤ length whole
+begins-length part whole p = omega (arith, simp length-append at (ap length (p .1)))
 
 module _ (m : Means) (o : Sound m) (n : ℕ) where
   leaf-is : (desk : List ℕ) (u x p : ℕ) (e : Around) → 0 < u → u ≤ n → askOf desk (e .kind) u x (e .content) .answer ≡ asked.Leaf p → p ≡ getD (positions n desk) (pred u) 0
@@ -114,12 +120,10 @@ module _ (m : Means) (o : Sound m) (n : ℕ) where
   -- one leaf of it
   pub leaf-at : (us ds : List ℕ) → AllGood n us → (r : Run n ds) → (j : ℕ) → j < length (leavesOf (ours m) n us ds r)
       → getD (leavesOf (ours m) n us ds r) j 0 ≡ getD (leavesShown n us ds) j 0
-  leaf-at us ds g r j k =
-      let p = run-begins us ds g r in
-      sym (List·getD-append (leavesOf (ours m) n us ds r) (p .0) 0 j k) ∙ ap (λ (ls : List ℕ). getD ls j 0) (p .1)
+  leaf-at us ds g r = begins-at (leavesOf (ours m) n us ds r) (leavesShown n us ds) (run-begins us ds g r)
 
   no-more : (us ds : List ℕ) → AllGood n us → (r : Run n ds) → length (leavesOf (ours m) n us ds r) ≤ length (leavesShown n us ds)
-  no-more us ds g r = let p = run-begins us ds g r in omega (arith, simp length-append at (ap length (p .1)))
+  no-more us ds g r = begins-length (leavesOf (ours m) n us ds r) (leavesShown n us ds) (run-begins us ds g r)
 
 -- ---- the demand
 

@@ -6,6 +6,7 @@ pub mod DemandTwo
 pub mod Trees
 pub mod Requests
 pub mod DemandThree
+pub mod Rows
 pub mod Exists
 pub mod Wrong
 pub mod Figures

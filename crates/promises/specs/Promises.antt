@@ -7,6 +7,7 @@ use Rattle.promises.specs.DemandTwo.{Exactly, DemandTwo, DemandTwoReacha
 use Rattle.promises.specs.Trees.{DemandTwoTree}
 use Rattle.promises.specs.Requests.{WholeRequests}
 use Rattle.promises.specs.DemandThree.{DemandThree, InOrder, ShownByDraws, ShownOnce, ShownLast}
+use Rattle.promises.specs.Rows.{HonestRows, AnyRow, ThreeWithRows}
 use Rattle.promises.specs.Exists.{Exists}
 use Rattle.promises.specs.Wrong.{ShutOut}
 use Rattle.promises.specs.Figures.{Figures}
@@ -24,12 +25,17 @@ pub record Promises (m : Means) : Type 0 where
   pub two-tree : DemandTwoTree m (ours m)
   -- one whole request, as one call, is what its steps are
   pub requests : WholeRequests
+  -- a row of the verdict book: its counts add up; over an honest server it is the plain table's own row, and leaves the table
+  pub any-row : AnyRow
+  pub honest-rows : HonestRows
   -- 3: what is shown does not depend on what is asked for; no draw is shown twice; the leaf shown is the last one drawn for the id
   pub three : DemandThree (ours m) (ours m)
   pub in-order : InOrder
   pub shown-by-draws : ShownByDraws (ours m)
   pub shown-once : ShownOnce (ours m)
   pub shown-last : ShownLast (ours m)
+  -- the same of runs with rows of the verdict book among the requests
+  pub three-with-rows : ThreeWithRows
   -- there are runs, and wrong stores are shut out
   pub exists : Exists (ours m)
   pub shut-out : ShutOut m

@@ -1,0 +1,166 @@
+-- Rows of the verdict book. Over an honest server a row is the plain table's own row; and a row asks for the leaves of its range, one after the other,
+-- whatever it finds there, so that demand 3 holds of runs with rows in them. Assumes nothing.
+use Prim.Native.Nat.{ℕ, zero, suc, _+_, _-_, _<_, _≤_}
+use mathlib.Core.Path.{_≡_}
+use mathlib.Core.Logic.{_≢_, _↔_}
+use mathlib.Core.Bool.{Bool, true}
+use mathlib.Core.Option.{Option, none, some}
+use mathlib.Core.List.{List, [], _∷_, _++_}
+use lib.ListN.{length, getD, take, drop}
+use Rattle.words.specs.Bytes.{zeros}
+use Rattle.sizes.specs.declared.Refusal.{Refusal}
+use Rattle.sizes.specs.declared.Refusal.the-variants.{Forged}
+use Rattle.sizes.specs.declared.Outcome.{Outcome}
+use Rattle.sizes.specs.declared.Outcome.the-variants as outcome
+use Rattle.sizes.specs.Sizes.{recordLen, pathLen}
+use Rattle.desk.specs.declared.Kind.the-variants.{Read}
+use Rattle.desk.specs.Readers.{sizesOf}
+use Rattle.items.specs.Real.{real}
+use Rattle.draws.specs.Draws.{AllGood, leavesShown, from, indices, rearrange, rearranged}
+use Rattle.requests.specs.declared.Answered.{Answered}
+use Rattle.requests.specs.declared.Answered.the-variants as answered
+use Rattle.requests.specs.Request.{requestOf}
+use Rattle.keeping.specs.Table.{Table}
+use Rattle.book.specs.declared.verdicts.Verdict.the-variants.{Pass}
+use Rattle.book.specs.declared.verdicts.Entry.{Entry}
+use Rattle.book.specs.declared.verdicts.Reading.the-variants.{Good}
+use Rattle.book.specs.declared.counts.Cell.{Cell}
+use Rattle.book.specs.declared.counts.Cell.the-variants.{NotRun}
+use Rattle.book.specs.declared.counts.Counts.{Counts}
+use Rattle.book.specs.declared.counts.Row.{Row}
+use Rattle.book.specs.declared.counts.Row.the-variants.{Refused, Counted}
+use Rattle.book.specs.Verdict.{readingOf}
+use Rattle.book.specs.Cells.{recordCell, noCounts, plus, sum}
+use Rattle.book.specs.MatrixRow.{RowResult, rowChecked, rowOf}
+use Rattle.promises.specs.Stores.{ours, Start, formatFor}
+use Rattle.promises.specs.Trees.{TreeState, TreeReached}
+use Rattle.promises.specs.DemandThree.{Around, shownIf, goOn, finishThen, Run}
+
+-- ---- the plain table's row
+
+-- Never is not run, and only Never
+abbrev pub tableCell : ℕ → Option (List ℕ) → Cell
+tableCell chapter none = NotRun
+tableCell chapter (some rec) = recordCell chapter rec
+
+-- the counts over n ids from `first` on
+abbrev pub tableCounts : ℕ → Table → ℕ → ℕ → Counts
+tableCounts chapter table first zero = noCounts
+tableCounts chapter table first (suc n) = plus (tableCell chapter (table (first + n))) (tableCounts chapter table first n)
+
+-- a pass record of a chapter is held
+pub record PassHeld (chapter : ℕ) (held : Option (List ℕ)) : Type 0 where
+  pub bytes : List ℕ
+  pub says : Entry
+  pub held-is : held ≡ some bytes
+  pub reads : readingOf bytes ≡ Good says
+  pub passes : says .verdict ≡ Pass
+  pub of-chapter : says .chapter ≡ chapter
+
+-- ---- over a server that returns what was last written
+
+abbrev pub rowIn : TreeState → ℕ → ℕ → ℕ → List ℕ → RowResult
+rowIn ts chapter first end draws = rowOf (ts .state .desk) (ts .tree) chapter first end draws
+
+-- what a row leaves is a state that is reached, and its table is the one before: whatever the row answers, demand 2 goes on from there
+pub record LeavesTable (b : Start) (ts : TreeState) (r : RowResult) : Type 0 where
+  pub after : TreeState
+  pub reached : TreeReached (ours real) b after
+  pub desk-is : r .desk ≡ after .state .desk
+  pub tree-is : r .tree ≡ after .tree
+  pub table-is : (id : ℕ) → after .state .table id ≡ ts .state .table id
+
+-- the counts are those over the plain table; the row is complete exactly if every id of the range has, in the table, a pass record of that chapter
+pub record CountsTable (ts : TreeState) (chapter first end : ℕ) (c : Counts) (complete : Bool) : Type 0 where
+  pub counts-are : c ≡ tableCounts chapter (ts .state .table) first (end - first)
+  pub complete-if : (complete ≡ true) ↔ ((id : ℕ) → first ≤ id → id < end → PassHeld chapter (ts .state .table id))
+
+pub record HonestRows : Type 0 where
+  pub counts : (b : Start) → b .room < 256 → (ts : TreeState) → TreeReached (ours real) b ts → (chapter first end : ℕ) (draws : List ℕ) (c : Counts) (complete : Bool)
+      → rowIn ts chapter first end draws .answer ≡ Counted c complete → CountsTable ts chapter first end c complete
+  pub leaves : (b : Start) → b .room < 256 → (ts : TreeState) → TreeReached (ours real) b ts → (chapter first end : ℕ) (draws : List ℕ)
+      → LeavesTable b ts (rowIn ts chapter first end draws)
+  pub never-forged : (b : Start) → b .room < 256 → (ts : TreeState) → TreeReached (ours real) b ts → (chapter first end : ℕ) (draws : List ℕ)
+      → rowIn ts chapter first end draws .answer ≢ Refused Forged
+
+-- ---- on every input, whatever desk and tree are
+
+pub record AnyRow : Type 0 where
+  -- the six counts add up to the range's length, and complete says that all have passed
+  pub adds-up : (desk tree : List ℕ) (chapter first end : ℕ) (draws : List ℕ) (c : Counts) (complete : Bool)
+      → rowOf desk tree chapter first end draws .answer ≡ Counted c complete
+      → (sum c ≡ end - first) × ((complete ≡ true) ↔ (c .passed ≡ end - first))
+  -- a refusal before any ask changes nothing
+  pub refuses : (desk tree : List ℕ) (chapter first end : ℕ) (draws : List ℕ) (q : Refusal) → rowChecked desk tree first end draws ≡ outcome.Refused q
+      → (rowOf desk tree chapter first end draws .answer ≡ Refused q) × (rowOf desk tree chapter first end draws .desk ≡ desk)
+      × (rowOf desk tree chapter first end draws .tree ≡ tree)
+
+-- ---- demand 3 with rows among the requests
+
+-- the leaves that the reads of a row ask for, from `id` on: a refusal ends them
+abbrev pub leafAsked : Answered → List ℕ → List ℕ
+leafAsked (answered.Refused q) more = []
+leafAsked (answered.Asked leaf f) more = leaf ∷ goOn f more
+
+unfoldable pub readsShow : ℕ → List ℕ → List ℕ → List ℕ → List ℕ → List ℕ → List ℕ
+readsShow id [] desk tree path buffer = []
+readsShow id (x ∷ xs) desk tree path buffer =
+    let r = requestOf desk tree path buffer Read id x in
+    leafAsked (r .answer) (readsShow (suc id) xs (r .desk) (r .tree) (r .path) (r .buffer))
+
+abbrev pub rowShowsBy : Outcome → List ℕ → List ℕ → ℕ → List ℕ → List ℕ
+rowShowsBy (outcome.Refused q) desk tree first draws = []
+rowShowsBy outcome.Done desk tree first draws = readsShow first draws desk tree (zeros (pathLen (sizesOf desk))) (zeros recordLen)
+
+abbrev pub rowShows : List ℕ → List ℕ → ℕ → ℕ → List ℕ → List ℕ
+rowShows desk tree first end draws = rowShowsBy (rowChecked desk tree first end draws) desk tree first draws
+
+-- what is done in a run: a request of an id in its surroundings, or a row of a chapter over a tree with any bytes
+pub data Deed : Type 0 where
+  request : ℕ → Around → Deed
+  row : List ℕ → ℕ → ℕ → ℕ → Deed
+
+-- the ids that it asks for: those of a row are its range
+abbrev pub idsAsked : Deed → List ℕ
+idsAsked (request u e) = u ∷ []
+idsAsked (row tree chapter first end) = from first (end - first)
+
+abbrev pub allIds : List Deed → List ℕ
+allIds [] = []
+allIds (d ∷ ds) = idsAsked d ++ allIds ds
+
+-- a run ends at its first refusal, a row's too
+abbrev pub goOnRow : Row → List ℕ → List ℕ
+goOnRow (Counted c complete) more = more
+goOnRow (Refused q) more = []
+
+-- the leaves that a run shows: from a desk, for deeds, with draws for them: a request takes one, a row one for each id of its range
+unfoldable pub deedsShow : List ℕ → List Deed → List ℕ → List ℕ
+deedsShow desk [] xs = []
+deedsShow desk (request u e ∷ ds) [] = []
+deedsShow desk (request u e ∷ ds) (x ∷ xs) =
+    shownIf (ours real .ask desk (e .kind) u x (e .content) .answer)
+    (λ p. p ∷ goOn (finishThen (ours real) desk u x e .answer) (deedsShow (finishThen (ours real) desk u x e .desk) ds xs))
+deedsShow desk (row tree chapter first end ∷ ds) xs =
+    let ys = take (end - first) xs in
+    rowShows desk tree first end ys
+    ++ goOnRow (rowOf desk tree chapter first end ys .answer) (deedsShow (rowOf desk tree chapter first end ys .desk) ds (drop (end - first) xs))
+
+-- from format: the deeds have their own surroundings, so those of the run are not looked at
+abbrev pub deedLeaves : (n : ℕ) (ds : List Deed) (draws : List ℕ) → Run n draws → List ℕ
+deedLeaves n ds draws r = deedsShow (formatFor (r .start) (r .lent) .desk) ds (drop n draws)
+
+-- the statements of demand 3, word for word, with the ids of the deeds in the place of the ids
+pub record ThreeWithRows : Type 0 where
+  pub three : (n : ℕ) (ds es : List Deed) → length (allIds ds) ≡ length (allIds es) → AllGood n (allIds ds) → AllGood n (allIds es)
+      → (draws : List ℕ) → length draws ≡ n + length (allIds ds)
+      → (r : Run n draws) (r′ : Run n (rearranged draws (rearrange n (allIds ds) (allIds es))))
+      → (j : ℕ) → j < length (deedLeaves n ds draws r) → j < length (deedLeaves n es (rearranged draws (rearrange n (allIds ds) (allIds es))) r′)
+      → getD (deedLeaves n ds draws r) j 0 ≡ getD (deedLeaves n es (rearranged draws (rearrange n (allIds ds) (allIds es))) r′) j 0
+  pub shown-by-draws : (n : ℕ) (ds : List Deed) (draws : List ℕ) → AllGood n (allIds ds) → (r : Run n draws)
+      → (j : ℕ) → j < length (deedLeaves n ds draws r) → getD (deedLeaves n ds draws r) j 0 ≡ getD (leavesShown n (allIds ds) draws) j 0
+  pub shown-once : (n : ℕ) (ds : List Deed) (draws : List ℕ) → AllGood n (allIds ds) → length draws ≡ n + length (allIds ds) → (r : Run n draws)
+      → (j : ℕ) → j < length (deedLeaves n ds draws r) → getD (deedLeaves n ds draws r) j 0 ≡ getD draws (getD (indices n (allIds ds)) j 0) 0
+  -- and a row that is counted has asked for a leaf for each id of its range, whatever it found there and whatever desk and tree are
+  pub asks-for-each : (desk tree : List ℕ) (chapter first end : ℕ) (draws : List ℕ) (c : Counts) (complete : Bool)
+      → rowOf desk tree chapter first end draws .answer ≡ Counted c complete → length (rowShows desk tree first end draws) ≡ end - first
