@@ -8,9 +8,9 @@ use Rattle.store.specs.declared.Finished.{Finished}
 use Rattle.requests.specs.declared.Answered.{Answered}
 use Rattle.requests.specs.declared.Answered.the-variants as answered
 use Rattle.requests.specs.Request.{requested, requestOf}
-use Rattle.book.specs.declared.counts.Found.{Found}
-use Rattle.book.specs.declared.counts.Found.the-variants as found
-use Rattle.book.specs.Cells.{foundOf}
+use Rattle.verdicts.specs.declared.counts.Found.{Found}
+use Rattle.verdicts.specs.declared.counts.Found.the-variants as found
+use Rattle.verdicts.specs.Cells.{foundOf}
 use Rattle.book.specs.MatrixRow.{looked, foundBy, lookedBy, readOf}
 
 module _ (chapter : ℕ) (desk tree path buffer : List ℕ) (id draw : ℕ) {a : Answered} {d t p b : List ℕ}

@@ -18,9 +18,9 @@ use Rattle.desk.specs.Layout.{idsOf}
 use Rattle.desk.specs.Readers.{sizesOf}
 use Rattle.desk.specs.Good.{goodDesk}
 use Rattle.desk.proofs.Known.{Known, known}
-use Rattle.book.specs.declared.counts.Row.{Row}
-use Rattle.book.specs.declared.counts.Row.the-variants.{Refused}
-use Rattle.book.specs.Cells.{noCounts}
+use Rattle.verdicts.specs.declared.counts.Row.{Row}
+use Rattle.verdicts.specs.declared.counts.Row.the-variants.{Refused}
+use Rattle.verdicts.specs.Cells.{noCounts}
 use Rattle.book.specs.MatrixRow.{rangeGood, rowRows, rowChecked, ran, rowFrom, rowed, ended, rowBy, rowOf}
 
 -- a good range

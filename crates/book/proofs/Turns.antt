@@ -6,14 +6,14 @@ use native.Mathlib.Omega.{arith}
 use lib.ListN.{length, getD, drop, drop-of-length-le}
 use lib.Seq.{drop-cons}
 use Rattle.sizes.specs.declared.Refusal.{Refusal}
-use Rattle.book.specs.declared.counts.Cell.{Cell}
-use Rattle.book.specs.declared.counts.Found.{Found}
-use Rattle.book.specs.declared.counts.Found.the-variants as found
-use Rattle.book.specs.declared.counts.Counts.{Counts}
-use Rattle.book.specs.declared.counts.Row.the-variants.{Refused}
-use Rattle.book.specs.Cells.{noCounts, plus, sum}
+use Rattle.verdicts.specs.declared.counts.Cell.{Cell}
+use Rattle.verdicts.specs.declared.counts.Found.{Found}
+use Rattle.verdicts.specs.declared.counts.Found.the-variants as found
+use Rattle.verdicts.specs.declared.counts.Counts.{Counts}
+use Rattle.verdicts.specs.declared.counts.Row.the-variants.{Refused}
+use Rattle.verdicts.specs.Cells.{noCounts, plus, sum}
 use Rattle.book.specs.MatrixRow.{ReadResult, looked, readOf, RunResult, ran, countedOf, goingOn, rowFrom}
-use Rattle.book.proofs.Counting.{sum-plus}
+use Rattle.verdicts.proofs.Counting.{sum-plus}
 
 -- ids up to, not including, `id` are read
 pub record SoFar (chapter first end : ℕ) (draws : List ℕ) (whole : RunResult) (id : ℕ) (c : Counts) (desk tree path buffer : List ℕ) : Type 0 where

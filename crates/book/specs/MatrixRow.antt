@@ -19,13 +19,13 @@ use Rattle.desk.specs.Good.{goodDesk}
 use Rattle.requests.specs.declared.Answered.{Answered}
 use Rattle.requests.specs.declared.Answered.the-variants as answered
 use Rattle.requests.specs.Request.{RequestResult, requestOf}
-use Rattle.book.specs.declared.counts.Cell.{Cell}
-use Rattle.book.specs.declared.counts.Found.{Found}
-use Rattle.book.specs.declared.counts.Found.the-variants as found
-use Rattle.book.specs.declared.counts.Counts.{Counts}
-use Rattle.book.specs.declared.counts.Row.{Row}
-use Rattle.book.specs.declared.counts.Row.the-variants.{Refused, Counted}
-use Rattle.book.specs.Cells.{foundOf, noCounts, plus}
+use Rattle.verdicts.specs.declared.counts.Cell.{Cell}
+use Rattle.verdicts.specs.declared.counts.Found.{Found}
+use Rattle.verdicts.specs.declared.counts.Found.the-variants as found
+use Rattle.verdicts.specs.declared.counts.Counts.{Counts}
+use Rattle.verdicts.specs.declared.counts.Row.{Row}
+use Rattle.verdicts.specs.declared.counts.Row.the-variants.{Refused, Counted}
+use Rattle.verdicts.specs.Cells.{foundOf, noCounts, plus}
 
 -- ---- the refusals before any ask, in order
 

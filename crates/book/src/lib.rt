@@ -1,20 +1,18 @@
 // The verdict book above the store: verdicts in records, and a matrix row of them, read through the store id by id. Assumes nothing.
-use crate::counts::Counts;
-use crate::counts::Found;
-use crate::counts::Row;
 use desk::Kind;
 use requests::Answered;
 use sizes::Outcome;
 use sizes::Refusal;
 use sizes::Sizes;
+use verdicts::counts;
+use verdicts::counts::Counts;
+use verdicts::counts::Found;
+use verdicts::counts::Row;
 ghost use mathlib.Core.Path.{_≡_};
 ghost use Prim.Native.Nat.{_+_, _-_, _≤_};
 ghost use lib.ListN.{length};
-ghost use Rattle.book.specs.Cells.{noCounts};
+ghost use Rattle.verdicts.specs.Cells.{noCounts};
 ghost use Rattle.book.specs.MatrixRow.{rowChecked, looked, readOf, ran, rowFrom, rowed, rowOf};
-
-pub mod counts;
-pub mod verdicts;
 
 // The refusals of a row before any ask, in order.
 fn row_checked(desk: &[u8], tree: &[u8], first: u16, end: u16, draws: &[u16]) -> Outcome

@@ -13,16 +13,16 @@ use Rattle.sizes.specs.declared.Outcome.{Outcome}
 use Rattle.sizes.specs.declared.Outcome.the-variants as outcome
 use Rattle.sizes.specs.Sizes.{recordLen, pathLen}
 use Rattle.desk.specs.Readers.{sizesOf}
-use Rattle.book.specs.declared.counts.Cell.{Cell}
-use Rattle.book.specs.declared.counts.Cell.the-variants.{Passed}
-use Rattle.book.specs.declared.counts.Found.{Found}
-use Rattle.book.specs.declared.counts.Found.the-variants as found
-use Rattle.book.specs.declared.counts.Counts.{Counts}
-use Rattle.book.specs.declared.counts.Row.{Row}
-use Rattle.book.specs.declared.counts.Row.the-variants.{Refused, Counted}
-use Rattle.book.specs.Cells.{noCounts, plus, sum}
+use Rattle.verdicts.specs.declared.counts.Cell.{Cell}
+use Rattle.verdicts.specs.declared.counts.Cell.the-variants.{Passed}
+use Rattle.verdicts.specs.declared.counts.Found.{Found}
+use Rattle.verdicts.specs.declared.counts.Found.the-variants as found
+use Rattle.verdicts.specs.declared.counts.Counts.{Counts}
+use Rattle.verdicts.specs.declared.counts.Row.{Row}
+use Rattle.verdicts.specs.declared.counts.Row.the-variants.{Refused, Counted}
+use Rattle.verdicts.specs.Cells.{noCounts, plus, sum}
 use Rattle.book.specs.MatrixRow.{ReadResult, RunResult, readOf, countedOf, goingOn, rowFrom, rowChecked, rowBy, rowOf}
-use Rattle.book.proofs.Counting.{sum-plus}
+use Rattle.verdicts.proofs.Counting.{sum-plus}
 use Rattle.book.proofs.Passed.{row-passed}
 use Rattle.promises.specs.Rows.{AnyRow}
 

@@ -25,13 +25,13 @@ use Rattle.store.specs.Finish.{FinishResult}
 use Rattle.requests.specs.declared.Answered.{Answered}
 use Rattle.requests.specs.declared.Answered.the-variants as answered
 use Rattle.keeping.specs.Table.{Table, plainAnswer, plainBuffer}
-use Rattle.book.specs.declared.verdicts.Verdict.{Verdict}
-use Rattle.book.specs.declared.verdicts.Reading.{Reading}
-use Rattle.book.specs.declared.counts.Cell.{Cell}
-use Rattle.book.specs.declared.counts.Found.{Found}
-use Rattle.book.specs.declared.counts.Found.the-variants as found
-use Rattle.book.specs.declared.counts.Row.the-variants.{Refused}
-use Rattle.book.specs.Cells.{recordCell, foundOf}
+use Rattle.verdicts.specs.declared.Verdict.{Verdict}
+use Rattle.verdicts.specs.declared.Reading.{Reading}
+use Rattle.verdicts.specs.declared.counts.Cell.{Cell}
+use Rattle.verdicts.specs.declared.counts.Found.{Found}
+use Rattle.verdicts.specs.declared.counts.Found.the-variants as found
+use Rattle.verdicts.specs.declared.counts.Row.the-variants.{Refused}
+use Rattle.verdicts.specs.Cells.{recordCell, foundOf}
 use Rattle.book.specs.MatrixRow.{ReadResult, foundBy, readOf, rowRows, rowChecked}
 use Rattle.promises.specs.Stores.{ours, Start, Request, Accepted}
 use Rattle.promises.specs.Steps.{State, afterAsk, tableDone, afterFinish}

@@ -19,15 +19,15 @@ use Rattle.asks.specs.declared.Asked.{Asked}
 use Rattle.store.specs.declared.Finished.{Finished}
 use Rattle.requests.specs.declared.Answered.{Answered}
 use Rattle.keeping.specs.Table.{Table}
-use Rattle.book.specs.declared.verdicts.Verdict.{Verdict}
-use Rattle.book.specs.declared.verdicts.Reading.{Reading}
-use Rattle.book.specs.declared.counts.Cell.{Cell}
-use Rattle.book.specs.declared.counts.Cell.the-variants.{Passed}
-use Rattle.book.specs.declared.counts.Found.{Found}
-use Rattle.book.specs.declared.counts.Found.the-variants as found
-use Rattle.book.specs.declared.counts.Counts.{Counts}
-use Rattle.book.specs.declared.counts.Row.the-variants.{Refused, Counted}
-use Rattle.book.specs.Cells.{noCounts, plus}
+use Rattle.verdicts.specs.declared.Verdict.{Verdict}
+use Rattle.verdicts.specs.declared.Reading.{Reading}
+use Rattle.verdicts.specs.declared.counts.Cell.{Cell}
+use Rattle.verdicts.specs.declared.counts.Cell.the-variants.{Passed}
+use Rattle.verdicts.specs.declared.counts.Found.{Found}
+use Rattle.verdicts.specs.declared.counts.Found.the-variants as found
+use Rattle.verdicts.specs.declared.counts.Counts.{Counts}
+use Rattle.verdicts.specs.declared.counts.Row.the-variants.{Refused, Counted}
+use Rattle.verdicts.specs.Cells.{noCounts, plus}
 use Rattle.book.specs.MatrixRow.{ReadResult, RunResult, readOf, goingOn, rowFrom, rowChecked, rowBy}
 use Rattle.book.proofs.Passed.{row-passed}
 use Rattle.promises.specs.Stores.{ours, Start}

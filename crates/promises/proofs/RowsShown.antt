@@ -25,11 +25,11 @@ use Rattle.store.specs.Finish.{finishOf}
 use Rattle.requests.specs.declared.Answered.{Answered}
 use Rattle.requests.specs.declared.Answered.the-variants as answered
 use Rattle.requests.specs.Request.{RequestResult, requested, finishedBy, returned, askedFor, requestOf}
-use Rattle.book.specs.declared.counts.Cell.{Cell}
-use Rattle.book.specs.declared.counts.Cell.the-variants.{Bad, NotRun}
-use Rattle.book.specs.declared.counts.Counts.{Counts}
-use Rattle.book.specs.declared.counts.Row.the-variants.{Counted}
-use Rattle.book.specs.Cells.{recordCell, noCounts, plus}
+use Rattle.verdicts.specs.declared.counts.Cell.{Cell}
+use Rattle.verdicts.specs.declared.counts.Cell.the-variants.{Bad, NotRun}
+use Rattle.verdicts.specs.declared.counts.Counts.{Counts}
+use Rattle.verdicts.specs.declared.counts.Row.the-variants.{Counted}
+use Rattle.verdicts.specs.Cells.{recordCell, noCounts, plus}
 use Rattle.book.specs.MatrixRow.{ReadResult, RunResult, foundBy, lookedBy, readOf, goingOn, rowFrom, rowChecked, rowBy, rowOf}
 use Rattle.book.proofs.Passed.{row-passed}
 use Rattle.promises.specs.Stores.{ours, formatFor}

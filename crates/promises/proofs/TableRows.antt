@@ -15,16 +15,16 @@ use Rattle.asks.specs.declared.Asked.{Asked}
 use Rattle.store.specs.declared.Finished.{Finished}
 use Rattle.requests.specs.declared.Answered.{Answered}
 use Rattle.keeping.specs.Table.{Table}
-use Rattle.book.specs.declared.verdicts.Verdict.{Verdict}
-use Rattle.book.specs.declared.verdicts.Verdict.the-variants as verdict
-use Rattle.book.specs.declared.verdicts.Reading.{Reading}
-use Rattle.book.specs.declared.verdicts.Reading.the-variants as reading
-use Rattle.book.specs.declared.counts.Cell.{Cell}
-use Rattle.book.specs.declared.counts.Cell.the-variants.{Passed, Failed, Skipped, Errors, Bad, NotRun}
-use Rattle.book.specs.declared.counts.Found.{Found}
-use Rattle.book.specs.declared.counts.Counts.{Counts}
-use Rattle.book.specs.Verdict.{readingOf}
-use Rattle.book.specs.Cells.{verdictCell, readingCell, recordCell, plus}
+use Rattle.verdicts.specs.declared.Verdict.{Verdict}
+use Rattle.verdicts.specs.declared.Verdict.the-variants as verdict
+use Rattle.verdicts.specs.declared.Reading.{Reading}
+use Rattle.verdicts.specs.declared.Reading.the-variants as reading
+use Rattle.verdicts.specs.declared.counts.Cell.{Cell}
+use Rattle.verdicts.specs.declared.counts.Cell.the-variants.{Passed, Failed, Skipped, Errors, Bad, NotRun}
+use Rattle.verdicts.specs.declared.counts.Found.{Found}
+use Rattle.verdicts.specs.declared.counts.Counts.{Counts}
+use Rattle.verdicts.specs.Verdict.{readingOf}
+use Rattle.verdicts.specs.Cells.{verdictCell, readingCell, recordCell, plus}
 use Rattle.promises.specs.Rows.{tableCell, tableCounts, PassHeld}
 
 -- ---- a cell is passed exactly if a pass record of the chapter is held

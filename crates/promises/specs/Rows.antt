@@ -21,16 +21,16 @@ use Rattle.requests.specs.declared.Answered.{Answered}
 use Rattle.requests.specs.declared.Answered.the-variants as answered
 use Rattle.requests.specs.Request.{requestOf}
 use Rattle.keeping.specs.Table.{Table}
-use Rattle.book.specs.declared.verdicts.Verdict.the-variants.{Pass}
-use Rattle.book.specs.declared.verdicts.Entry.{Entry}
-use Rattle.book.specs.declared.verdicts.Reading.the-variants.{Good}
-use Rattle.book.specs.declared.counts.Cell.{Cell}
-use Rattle.book.specs.declared.counts.Cell.the-variants.{NotRun}
-use Rattle.book.specs.declared.counts.Counts.{Counts}
-use Rattle.book.specs.declared.counts.Row.{Row}
-use Rattle.book.specs.declared.counts.Row.the-variants.{Refused, Counted}
-use Rattle.book.specs.Verdict.{readingOf}
-use Rattle.book.specs.Cells.{recordCell, noCounts, plus, sum}
+use Rattle.verdicts.specs.declared.Verdict.the-variants.{Pass}
+use Rattle.verdicts.specs.declared.Entry.{Entry}
+use Rattle.verdicts.specs.declared.Reading.the-variants.{Good}
+use Rattle.verdicts.specs.declared.counts.Cell.{Cell}
+use Rattle.verdicts.specs.declared.counts.Cell.the-variants.{NotRun}
+use Rattle.verdicts.specs.declared.counts.Counts.{Counts}
+use Rattle.verdicts.specs.declared.counts.Row.{Row}
+use Rattle.verdicts.specs.declared.counts.Row.the-variants.{Refused, Counted}
+use Rattle.verdicts.specs.Verdict.{readingOf}
+use Rattle.verdicts.specs.Cells.{recordCell, noCounts, plus, sum}
 use Rattle.book.specs.MatrixRow.{RowResult, rowChecked, rowOf}
 use Rattle.promises.specs.Stores.{ours, Start, formatFor}
 use Rattle.promises.specs.Trees.{TreeState, TreeReached}

@@ -3,7 +3,7 @@ use Prim.Native.Nat.{ℕ, _+_, _-_, _≤_, _<_}
 use mathlib.Core.Path.{_≡_, refl, _∙_}
 use native.Mathlib.Omega.{arith}
 use lib.ListN.{length}
-use Rattle.book.specs.Cells.{noCounts}
+use Rattle.verdicts.specs.Cells.{noCounts}
 use Rattle.book.specs.MatrixRow.{rowFrom}
 use Rattle.book.proofs.Turns.{SoFar, begun, found-cell, found-refusal, all-read}
 use borrow.Author.Needs.{needs}

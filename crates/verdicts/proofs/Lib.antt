@@ -1,0 +1,6 @@
+pub mod Name
+pub mod GoodRecord
+pub mod Written
+pub mod Laws
+pub mod Cell
+pub mod Counting
