@@ -1,2 +1,3 @@
 pub mod Signed
 pub mod Lengths
+pub mod Book

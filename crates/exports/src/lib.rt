@@ -21,6 +21,8 @@ ghost use Rattle.chacha20.specs.ChaCha.{cipher};
 ghost use Rattle.tree.specs.Tree.{fetchOf, putOf};
 ghost use Rattle.exports.specs.Codes.{refusalCode, outcomeCode, askedCode, finishedCode, lengthBy, deskLength, Answered, Finishes};
 
+pub mod books;
+
 // A refusal's number, negative.
 fn refused(r: Refusal) -> i32
     ensures { λ n. ⌜ n ≡ refusalCode r ⌝ }

@@ -1,18 +1,34 @@
--- Rows of the verdict book, on every input: the counts add up to the range's length, and a refusal before any ask changes nothing. Assumes nothing.
+-- Rows of the verdict book, on every input: the counts add up to the range's length, a refusal before any ask changes nothing, and no read is answered
+-- by Done. Assumes nothing.
 use Prim.Native.Nat.{ℕ, suc, _+_, _-_}
 use mathlib.Core.Path.{_≡_, refl, sym, ap, _∙_}
-use mathlib.Core.Bool.{Bool}
+use mathlib.Core.Logic.{_≢_}
+use mathlib.Core.Bool.{Bool, true, false}
 use mathlib.Core.List.{List, [], _∷_}
 use native.Mathlib.Omega.{arith}
 use lib.ListN.{length}
 use lib.Dec.{eqb}
 use borrow.Author.Tests.{eqb-true, eq-eqb}
 use Rattle.words.specs.Bytes.{zeros}
+use Rattle.sizes.specs.declared.Sizes.{Sizes}
 use Rattle.sizes.specs.declared.Refusal.{Refusal}
 use Rattle.sizes.specs.declared.Outcome.{Outcome}
 use Rattle.sizes.specs.declared.Outcome.the-variants as outcome
 use Rattle.sizes.specs.Sizes.{recordLen, pathLen}
-use Rattle.desk.specs.Readers.{sizesOf}
+use Rattle.desk.specs.declared.Kind.{Kind}
+use Rattle.desk.specs.declared.Kind.the-variants.{Read}
+use Rattle.desk.specs.Readers.{sizesOf, kindAsked}
+use Rattle.items.specs.Real.{real}
+use Rattle.tree.specs.Tree.{fetchOf}
+use Rattle.asks.specs.declared.Asked.{Asked}
+use Rattle.asks.specs.declared.Asked.the-variants as asked
+use Rattle.asks.specs.Ask.{askOf}
+use Rattle.asks.proofs.Opened.{opened-kind}
+use Rattle.store.specs.declared.Finished.the-variants as finished
+use Rattle.store.specs.Steps.{answerFor, wasMarked}
+use Rattle.store.specs.Finish.{finishedOr, finishOf, finishChecked}
+use Rattle.requests.specs.declared.Answered.the-variants as answered
+use Rattle.requests.specs.Request.{finishedBy, askedFor, requestOf}
 use Rattle.verdicts.specs.declared.counts.Cell.{Cell}
 use Rattle.verdicts.specs.declared.counts.Cell.the-variants.{Passed}
 use Rattle.verdicts.specs.declared.counts.Found.{Found}
@@ -25,6 +41,7 @@ use Rattle.book.specs.MatrixRow.{ReadResult, RunResult, readOf, countedOf, goin
 use Rattle.verdicts.proofs.Counting.{sum-plus}
 use Rattle.book.proofs.Passed.{row-passed}
 use Rattle.promises.specs.Rows.{AnyRow}
+use Rattle.promises.proofs.Answers.{leaf-asked}
 
 -- ---- a row that is counted was refused by nothing
 
@@ -74,6 +91,37 @@ run-adds chapter n id (x ∷ xs) c desk tree path buffer =
     (λ cell. run-adds chapter n (suc id) xs (plus cell c) (r .desk) (r .tree) (r .path) (r .buffer))
     (r .found)
 
+-- ---- a read that was asked for is no write, so its finish is not Done
+
+not-done : (o : Outcome) (marked : Bool) → finishedOr o (answerFor Read marked) ≢ finished.Done
+not-done (outcome.Refused q) marked h = let z : _≡_ {A = ℕ} 0 1 = cc in omega arith
+not-done outcome.Done true h = let z : _≡_ {A = ℕ} 0 1 = cc in omega arith
+not-done outcome.Done false h = let z : _≡_ {A = ℕ} 0 1 = cc in omega arith
+
+finished-not : (o : Outcome) (s : Sizes) (x : ℕ) (desk tree path buffer : List ℕ) (p : ℕ) → kindAsked desk ≡ Read
+    → finishedBy o s x desk tree path buffer .answer ≢ answered.Asked p finished.Done
+finished-not (outcome.Refused q) s x desk tree path buffer p k h = let z : _≡_ {A = ℕ} 0 1 = cc in omega arith
+finished-not outcome.Done s x desk tree path buffer p k h =
+    let e : finishOf real desk path buffer .answer ≡ finished.Done = cc in
+    let c = finishChecked real desk path buffer in
+    not-done c (wasMarked real desk path) (ap (λ (z : Kind). finishedOr c (answerFor z (wasMarked real desk path))) (sym k) ∙ e)
+
+read-not : (desk tree path buffer : List ℕ) (id draw p : ℕ) → requestOf desk tree path buffer Read id draw .answer ≢ answered.Asked p finished.Done
+read-not desk tree path buffer id draw p e = go (askOf desk Read id draw buffer .answer) refl
+  where
+    d : List ℕ
+    d = askOf desk Read id draw buffer .desk
+
+    go : (a : Asked) → askOf desk Read id draw buffer .answer ≡ a → ⊥
+    go (asked.Refused q) h =
+        let w : answered.Refused q ≡ answered.Asked p finished.Done = sym (ap (λ (a : Asked). askedFor a d tree path buffer .answer) h) ∙ e in
+        let z : _≡_ {A = ℕ} 0 1 = cc in
+        omega arith
+    go (asked.Leaf x) h =
+        let l = leaf-asked desk Read id draw buffer x h in
+        finished-not (fetchOf (sizesOf d) x tree path .answer) (sizesOf d) x d tree (fetchOf (sizesOf d) x tree path .path) buffer p
+        (ap kindAsked (l .after) ∙ opened-kind desk Read id draw buffer (l .passed)) (sym (ap (λ (a : Asked). askedFor a d tree path buffer .answer) h) ∙ e)
+
 -- ---- all of it
 
 pub any-row : AnyRow
@@ -93,4 +141,5 @@ any-row =
             ap (λ (x : Outcome). rowBy x desk tree chapter first end draws .desk) e,
             ap (λ (x : Outcome). rowBy x desk tree chapter first end draws .tree) e,
           );
+      never-done = read-not;
     }

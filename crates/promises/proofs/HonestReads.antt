@@ -116,11 +116,11 @@ cell-of chapter held buffer now (finished.Refused q) w cell h =
     let z : _≡_ {A = ℕ} 0 1 = cc in
     absurd (omega arith)
 
-found-forged : (chapter : ℕ) (now : List ℕ) (f : Finished) → foundOf chapter f now ≡ found.Refused Forged → f ≡ finished.Refused Forged
-found-forged chapter now finished.Record h = let z : _≡_ {A = ℕ} 0 1 = cc in absurd (omega arith)
-found-forged chapter now finished.Never h = let z : _≡_ {A = ℕ} 0 1 = cc in absurd (omega arith)
-found-forged chapter now finished.Done h = let z : _≡_ {A = ℕ} 0 1 = cc in absurd (omega arith)
-found-forged chapter now (finished.Refused q) h = cc
+pub found-refused : (chapter : ℕ) (now : List ℕ) (q : Refusal) (f : Finished) → foundOf chapter f now ≡ found.Refused q → f ≡ finished.Refused q
+found-refused chapter now q finished.Record h = let z : _≡_ {A = ℕ} 0 1 = cc in absurd (omega arith)
+found-refused chapter now q finished.Never h = let z : _≡_ {A = ℕ} 0 1 = cc in absurd (omega arith)
+found-refused chapter now q finished.Done h = let z : _≡_ {A = ℕ} 0 1 = cc in absurd (omega arith)
+found-refused chapter now q (finished.Refused r) h = cc
 
 -- no refusal before a finish is Forged
 not-low : (q : Refusal) → numberOf q < 9 → q ≢ Forged
@@ -179,7 +179,7 @@ module _ (b : Start) (byte : b .room < 256) (table : Table) where
                   table-is = λ u. read-table b ts path buffer id x (w .0) (w .1) u ∙ same u;
                 };
             cell-is = λ cell h. cell-of chapter (ts .state .table id) buffer now f (r .plain) cell (sym k ∙ h) ∙ ap (tableCell chapter) (same id);
-            not-forged = λ h. r .never-forged (found-forged chapter now f (sym k ∙ h));
+            not-forged = λ h. r .never-forged (found-refused chapter now Forged f (sym k ∙ h));
           }
 
   pub read-is : (desk tree : List ℕ) → Stands b table desk tree → (chapter id x : ℕ) (path buffer : List ℕ)

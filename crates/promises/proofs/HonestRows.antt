@@ -36,6 +36,8 @@ use Rattle.promises.specs.Rows.{tableCell, tableCounts, PassHeld, rowIn,
 use Rattle.promises.proofs.BookRows.{not-counted, runOf, was-done, any-row}
 use Rattle.promises.proofs.TableRows.{pass-held, held-pass, all-passed, passed-all}
 use Rattle.promises.proofs.HonestReads.{Stands, ReadIs, read-is, row-low}
+use Rattle.promises.proofs.RowsAnswer.{row-answers, row-roomy}
+use Rattle.promises.proofs.RowsExist.{first-row}
 
 -- ---- a run of reads: counts so far are those of the table
 
@@ -132,4 +134,7 @@ honest-rows =
       never-forged =
           λ b byte ts reached chapter first end draws.
           forged-not b byte ts reached chapter first end draws (rowChecked (ts .state .desk) (ts .tree) first end draws) refl;
+      answers = row-answers;
+      roomy = λ b byte room ts reached chapter first end draws o q h. row-roomy b byte ts reached chapter first end draws o q h room;
+      first-row = λ b lent p room tree size chapter id draw low high all. first-row b lent p room tree size chapter id draw low high (all 0 (omega arith));
     }

@@ -17,7 +17,10 @@ pub mod Trees
 pub mod Requests
 pub mod BookRows
 pub mod TableRows
+pub mod ReadyReads
+pub mod RowsExist
 pub mod HonestReads
+pub mod RowsAnswer
 pub mod HonestRows
 pub mod RowsShown
 pub mod Room

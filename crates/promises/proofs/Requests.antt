@@ -83,26 +83,26 @@ module _ (b : Start) (byte : b .room < 256) (ts : TreeState) (reached : TreeReac
   abbrev req : Request
   req = asRequest kind id leaf buffer
 
-  abbrev d : List ℕ
+  abbrev pub d : List ℕ
   d = askOf (ts .state .desk) kind id leaf buffer .desk
 
   -- the state after the ask
-  abbrev one : TreeState
+  abbrev pub one : TreeState
   one = record { state = afterAsk (ts .state) req (asked.Leaf p) d; tree = ts .tree }
 
-  one-is : turn (ours real) s ts (asking req) ≡ one
+  pub one-is : turn (ours real) s ts (asking req) ≡ one
   one-is = ap (λ (a : Asked). record { state = afterAsk (ts .state) req a d; tree = ts .tree }) h
 
   one-reached : TreeReached (ours real) b one
   one-reached = subst (λ (x : TreeState). TreeReached (ours real) b x) one-is (reached-turn (ours real) b ts reached (asking req))
 
-  kept : TreeKept real (ours real) b one
+  pub kept : TreeKept real (ours real) b one
   kept = demand-two-tree real real-sound b byte one one-reached
 
-  both : Both real real-sound b byte one
+  pub both : Both real real-sound b byte one
   both = reached-both real real-sound b byte one one-reached
 
-  open-now : statusOf d ≡ openStatus
+  pub open-now : statusOf d ≡ openStatus
   open-now =
       let l = leaf-asked (ts .state .desk) kind id leaf buffer p h in
       ap statusOf (l .after) ∙ opened-changed (ts .state .desk) kind id leaf buffer (l .passed) .status
@@ -110,10 +110,10 @@ module _ (b : Start) (byte : b .room < 256) (ts : TreeState) (reached : TreeReac
   low : p < leaves s
   low = leaf-low real real-sound b byte one both open-now
 
-  abbrev got : List ℕ
+  abbrev pub got : List ℕ
   got = fetchOf s p (ts .tree) path .path
 
-  abbrev f : FinishResult
+  abbrev pub f : FinishResult
   f = finishOf real d got buffer
 
   -- fetch and finish, by the length of the lent path
@@ -148,7 +148,7 @@ module _ (b : Start) (byte : b .room < 256) (ts : TreeState) (reached : TreeReac
     short-is = ap (λ (x : List ℕ). finishOf real d x buffer) got-short ∙ ap (λ (c : Outcome). finishBy c real d path buffer) finish-short
 
   -- the request is the finish over what was fetched, and put
-  request-is : requestFor ts path buffer kind id leaf ≡ returned s p (ts .tree) f
+  pub request-is : requestFor ts path buffer kind id leaf ≡ returned s p (ts .tree) f
   request-is =
       ap (λ (a : Asked). askedFor a d (ts .tree) path buffer) h
       ∙ ap (λ (z : Sizes). fetchedFor z p d (ts .tree) path buffer) (kept .kept .sizes)
@@ -163,7 +163,7 @@ module _ (b : Start) (byte : b .room < 256) (ts : TreeState) (reached : TreeReac
   handed : (length path ≢ pathLen s → ⊥) → fetchedBy b one got
   handed n = (path, byCases (eqb (length path) (pathLen s)) (eqb-true (length path) (pathLen s)) (λ e. absurd (n (eqb-false (length path) (pathLen s) e))), refl)
 
-  as-turns : AsTurns b ts path buffer kind id leaf p (f .answer)
+  pub as-turns : AsTurns b ts path buffer kind id leaf p (f .answer)
   as-turns =
       let two : twoTurns b ts path buffer kind id leaf ≡ turn (ours real) s one (Turn.serving path buffer) =
       ap (λ (x : TreeState). turn (ours real) s x (Turn.serving path buffer)) one-is in

@@ -57,7 +57,7 @@ module _ (m : Means) (o : Sound m) (b : Start) (byte : b .room < 256) where
         (subst (λ (l : ℕ). l < leaves (sizesOf (st .desk))) (sym (v .stands .opens s .leaf)) (asks-of (st .desk) (v .stands .good) s .low))
 
     -- a fetched path of the right length agrees
-    fetched-agrees : statusOf (st .desk) ≡ openStatus → (lent : List ℕ) → length (fetchFor (b .sizes) ts lent) ≡ pathLen (b .sizes)
+    pub fetched-agrees : statusOf (st .desk) ≡ openStatus → (lent : List ℕ) → length (fetchFor (b .sizes) ts lent) ≡ pathLen (b .sizes)
         → Agrees (viewOf (st .desk)) (st .server) (fetchFor (b .sizes) ts lent)
     fetched-agrees s lent l =
         returned-agrees m o b byte st (v .stands) s (fetchFor (b .sizes) ts lent)

@@ -2,21 +2,23 @@
 -- whatever it finds there, so that demand 3 holds of runs with rows in them. Assumes nothing.
 use Prim.Native.Nat.{ℕ, zero, suc, _+_, _-_, _<_, _≤_}
 use mathlib.Core.Path.{_≡_}
-use mathlib.Core.Logic.{_≢_, _↔_}
-use mathlib.Core.Bool.{Bool, true}
+use mathlib.Core.Logic.{_≢_, _↔_, _⊎_}
+use mathlib.Core.Bool.{Bool, true, false}
 use mathlib.Core.Option.{Option, none, some}
 use mathlib.Core.List.{List, [], _∷_, _++_}
 use lib.ListN.{length, getD, take, drop}
 use Rattle.words.specs.Bytes.{zeros}
 use Rattle.sizes.specs.declared.Refusal.{Refusal}
-use Rattle.sizes.specs.declared.Refusal.the-variants.{Forged}
+use Rattle.sizes.specs.declared.Refusal.the-variants.{Forged, Worn, Full}
 use Rattle.sizes.specs.declared.Outcome.{Outcome}
 use Rattle.sizes.specs.declared.Outcome.the-variants as outcome
-use Rattle.sizes.specs.Sizes.{recordLen, pathLen}
+use Rattle.sizes.specs.Sizes.{recordLen, leaves, pathLen, treeLen}
 use Rattle.desk.specs.declared.Kind.the-variants.{Read}
-use Rattle.desk.specs.Readers.{sizesOf}
+use Rattle.desk.specs.Readers.{sizesOf, statusOf}
+use Rattle.desk.specs.Status.{readyStatus}
 use Rattle.items.specs.Real.{real}
 use Rattle.draws.specs.Draws.{AllGood, leavesShown, from, indices, rearrange, rearranged}
+use Rattle.store.specs.declared.Finished.the-variants as finished
 use Rattle.requests.specs.declared.Answered.{Answered}
 use Rattle.requests.specs.declared.Answered.the-variants as answered
 use Rattle.requests.specs.Request.{requestOf}
@@ -34,6 +36,7 @@ use Rattle.verdicts.specs.Cells.{recordCell, noCounts, plus, sum}
 use Rattle.book.specs.MatrixRow.{RowResult, rowChecked, rowOf}
 use Rattle.promises.specs.Stores.{ours, Start, formatFor}
 use Rattle.promises.specs.Trees.{TreeState, TreeReached}
+use Rattle.promises.specs.Exists.{Proper}
 use Rattle.promises.specs.DemandThree.{Around, shownIf, goOn, finishThen, Run}
 
 -- ---- the plain table's row
@@ -75,6 +78,16 @@ pub record CountsTable (ts : TreeState) (chapter first end : ℕ) (c : Counts) (
   pub counts-are : c ≡ tableCounts chapter (ts .state .table) first (end - first)
   pub complete-if : (complete ≡ true) ↔ ((id : ℕ) → first ≤ id → id < end → PassHeld chapter (ts .state .table id))
 
+-- every draw is a leaf
+abbrev pub AllLeaves : Start → List ℕ → Type 0
+AllLeaves b draws = (i : ℕ) → i < length draws → getD draws i 0 < leaves (b .sizes)
+
+-- a row from a ready desk, whose own checks refuse nothing, with leaves for its draws
+pub record InOrder (b : Start) (ts : TreeState) (first end : ℕ) (draws : List ℕ) : Type 0 where
+  pub ready : statusOf (ts .state .desk) ≡ readyStatus
+  pub checked : rowChecked (ts .state .desk) (ts .tree) first end draws ≡ outcome.Done
+  pub all-leaves : AllLeaves b draws
+
 pub record HonestRows : Type 0 where
   pub counts : (b : Start) → b .room < 256 → (ts : TreeState) → TreeReached (ours real) b ts → (chapter first end : ℕ) (draws : List ℕ) (c : Counts) (complete : Bool)
       → rowIn ts chapter first end draws .answer ≡ Counted c complete → CountsTable ts chapter first end c complete
@@ -82,6 +95,16 @@ pub record HonestRows : Type 0 where
       → LeavesTable b ts (rowIn ts chapter first end draws)
   pub never-forged : (b : Start) → b .room < 256 → (ts : TreeState) → TreeReached (ours real) b ts → (chapter first end : ℕ) (draws : List ℕ)
       → rowIn ts chapter first end draws .answer ≢ Refused Forged
+  -- a row in order is counted, or it ends as Worn or Full: no other refusal ends it
+  pub answers : (b : Start) → b .room < 256 → (ts : TreeState) → TreeReached (ours real) b ts → (chapter first end : ℕ) (draws : List ℕ)
+      → InOrder b ts first end draws → (q : Refusal) → rowIn ts chapter first end draws .answer ≡ Refused q → (q ≡ Worn) ⊎ (q ≡ Full)
+  -- where the stash has room for every id, as Worn alone
+  pub roomy : (b : Start) → b .room < 256 → b .ids ≤ b .room → (ts : TreeState) → TreeReached (ours real) b ts → (chapter first end : ℕ) (draws : List ℕ)
+      → InOrder b ts first end draws → (q : Refusal) → rowIn ts chapter first end draws .answer ≡ Refused q → q ≡ Worn
+  -- there are counted rows: on a fresh store, over a tree with any bytes, a row of one id is counted, and its case is not run
+  pub first-row : (b : Start) (lent : List ℕ) → Proper b lent → 1 ≤ b .room → (tree : List ℕ) → length tree ≡ treeLen (b .sizes)
+      → (chapter id draw : ℕ) → 1 ≤ id → id ≤ b .ids → AllLeaves b (draw ∷ [])
+      → rowOf (formatFor b lent .desk) tree chapter id (id + 1) (draw ∷ []) .answer ≡ Counted (plus NotRun noCounts) false
 
 -- ---- on every input, whatever desk and tree are
 
@@ -94,6 +117,8 @@ pub record AnyRow : Type 0 where
   pub refuses : (desk tree : List ℕ) (chapter first end : ℕ) (draws : List ℕ) (q : Refusal) → rowChecked desk tree first end draws ≡ outcome.Refused q
       → (rowOf desk tree chapter first end draws .answer ≡ Refused q) × (rowOf desk tree chapter first end draws .desk ≡ desk)
       × (rowOf desk tree chapter first end draws .tree ≡ tree)
+  -- a read is never answered by Done: so the column that `foundOf` gives to Done stands for no read
+  pub never-done : (desk tree path buffer : List ℕ) (id draw p : ℕ) → requestOf desk tree path buffer Read id draw .answer ≢ answered.Asked p finished.Done
 
 -- ---- demand 3 with rows among the requests
 
