@@ -1,5 +1,2 @@
-pub mod Fronts
 pub mod Meanings
-pub mod Written
-pub mod Pieces
 pub mod Bounds

@@ -1,4 +1,1 @@
-pub mod Text
 pub mod Lines
-pub mod Pieces
-pub mod Listing

@@ -5,7 +5,7 @@ use mathlib.Core.Bool.{false}
 use mathlib.Core.List.{List}
 use native.Mathlib.Omega.{arith}
 use lib.ListN.{length}
-use Rattle.script.specs.Pieces.{mostLine}
+use Rattle.setup.specs.Setup.{mostLine}
 use Rattle.shelf.specs.declared.run.Run.the-variants as run
 use Rattle.shelf.specs.declared.turns.Place.{Place}
 use Rattle.shelf.specs.declared.turns.Turn.{Turn}

@@ -9,14 +9,15 @@ use Rattle.sizes.specs.declared.Outcome.{Outcome}
 use Rattle.sizes.specs.declared.Outcome.the-variants as outcome
 use Rattle.formats.specs.Format.{formatChecked, formatOf}
 use Rattle.formats.proofs.Passed.{format-passed}
-use Rattle.script.specs.declared.Store.{Store}
-use Rattle.script.specs.declared.First.{First}
-use Rattle.script.specs.declared.First.the-variants as first
+use Rattle.setup.specs.declared.Store.{Store}
+use Rattle.setup.specs.declared.First.{First}
+use Rattle.setup.specs.declared.First.the-variants as first
+use Rattle.setup.specs.Setup.{storeOf, startGood, startLeaves}
+use Rattle.setup.proofs.Bounds.{store-fits}
 use Rattle.script.specs.declared.Line.{Line}
 use Rattle.script.specs.declared.Line.the-variants as line
-use Rattle.script.specs.Lines.{storeOf, startGood, startLeaves, requestOf}
-use Rattle.script.specs.Listing.{Wrote, mostRow}
-use Rattle.script.proofs.Bounds.{store-fits}
+use Rattle.script.specs.Lines.{requestOf}
+use Rattle.listing.specs.Listing.{Wrote, mostRow}
 use Rattle.shelf.specs.declared.run.Run.{Run}
 use Rattle.shelf.specs.declared.run.Run.the-variants as run
 use Rattle.shelf.specs.Shelf.{key, Shelf, shelf, over, nothing, deskLenOf}

@@ -6,10 +6,10 @@ use mathlib.Core.List.{List, _++_}
 use native.Mathlib.Omega.{arith}
 use lib.ListN.{length, length-append}
 use Rattle.words.specs.Bytes.{splice}
-use Rattle.script.specs.declared.First.{First}
+use Rattle.text.specs.Text.{badLine}
+use Rattle.setup.specs.declared.First.{First}
+use Rattle.setup.specs.Setup.{mostLine}
 use Rattle.script.specs.declared.Line.{Line}
-use Rattle.script.specs.Text.{badLine}
-use Rattle.script.specs.Pieces.{mostLine}
 use Rattle.script.proofs.Bounds.{too-long}
 use Rattle.shelf.specs.declared.run.Run.{Run}
 use Rattle.shelf.specs.declared.run.Run.the-variants as run

@@ -14,11 +14,12 @@ use Rattle.formats.specs.Format.{formatOf, result}
 use Rattle.requests.specs.declared.Answered.{Answered}
 use Rattle.requests.specs.Request as requests
 use Rattle.requests.specs.Request.{RequestResult, requested}
-use Rattle.script.specs.declared.Store.{Store}
+use Rattle.setup.specs.declared.Store.{Store}
+use Rattle.setup.specs.Setup.{startGood, startLeaves, mostShelfHeight}
 use Rattle.script.specs.declared.Line.{Line}
 use Rattle.script.specs.declared.Line.the-variants as line
-use Rattle.script.specs.Lines.{startGood, startLeaves, requestOf, recordOf, mostShelfHeight}
-use Rattle.script.specs.Listing.{Wrote, mostRow}
+use Rattle.script.specs.Lines.{requestOf, recordOf}
+use Rattle.listing.specs.Listing.{Wrote, mostRow}
 use Rattle.shelf.specs.declared.run.Run.{Run}
 use Rattle.shelf.specs.declared.run.Run.the-variants as run
 use Rattle.shelf.specs.Shelf.{key, Shelf, shelf, over, deskLenOf, treeLenOf, pathLenOf, mostTree, mostPath}

@@ -15,17 +15,18 @@ use Rattle.store.specs.declared.Finished.{Finished}
 use Rattle.store.specs.declared.Finished.the-variants as finished
 use Rattle.requests.specs.Request.{RequestResult}
 use Rattle.requests.specs.Request as requests
-use Rattle.script.specs.declared.Store.{Store}
-use Rattle.script.specs.declared.First.{First}
-use Rattle.script.specs.declared.First.the-variants as first
+use Rattle.text.specs.Text.{badLine}
+use Rattle.setup.specs.declared.Store.{Store}
+use Rattle.setup.specs.declared.First.{First}
+use Rattle.setup.specs.declared.First.the-variants as first
+use Rattle.setup.specs.Setup.{storeOf, startGood, startLeaves, mostShelfHeight}
 use Rattle.script.specs.declared.Line.{Line}
 use Rattle.script.specs.declared.Line.the-variants as line
-use Rattle.script.specs.declared.Shown.the-variants as shown
-use Rattle.script.specs.declared.Answer.{Answer}
-use Rattle.script.specs.declared.Answer.the-variants as answer
-use Rattle.script.specs.Text.{badLine}
-use Rattle.script.specs.Lines.{storeOf, startGood, startLeaves, requestOf, recordOf, mostShelfHeight}
-use Rattle.script.specs.Listing.{Wrote, mostRow, rowOf, formatRow}
+use Rattle.script.specs.Lines.{requestOf, recordOf}
+use Rattle.listing.specs.declared.Shown.the-variants as shown
+use Rattle.listing.specs.declared.Answer.{Answer}
+use Rattle.listing.specs.declared.Answer.the-variants as answer
+use Rattle.listing.specs.Listing.{Wrote, mostRow, rowOf, formatRow}
 use Rattle.shelf.specs.declared.run.Run.{Run}
 use Rattle.shelf.specs.declared.run.Run.the-variants as run
 use Rattle.shelf.specs.Shelf.{key, Shelf, shelf, over, sizesOf, deskLenOf, treeLenOf, pathLenOf, mostDesk, mostTree, mostPath, Lent}

@@ -5,9 +5,9 @@ use mathlib.Core.List.{List, [], _∷_, _++_}
 use lib.ListN.{length, drop}
 use Rattle.sizes.specs.declared.Sizes.{Sizes}
 use Rattle.sizes.specs.Sizes.{sized, deskLen, treeLen, pathLen, recordLen, mostIds, mostSlots}
-use Rattle.script.specs.declared.Store.{Store}
-use Rattle.script.specs.Lines.{mostShelfHeight, mostByte}
-use Rattle.script.specs.Listing.{mostRow}
+use Rattle.setup.specs.declared.Store.{Store}
+use Rattle.setup.specs.Setup.{mostShelfHeight, mostByte}
+use Rattle.listing.specs.Listing.{mostRow}
 
 -- key bytes 0 to 31
 abbrev pub upTo : ℕ → ℕ → List ℕ

@@ -5,7 +5,7 @@ use mathlib.Core.Bool.{false}
 use mathlib.Core.List.{List, _++_}
 use lib.ListN.{length}
 use Rattle.words.specs.Bytes.{splice}
-use Rattle.script.specs.Pieces.{mostLine}
+use Rattle.setup.specs.Setup.{mostLine}
 use Rattle.shelf.specs.declared.run.Run.{Run}
 use Rattle.shelf.specs.declared.run.Run.the-variants as run
 use Rattle.shelf.specs.declared.turns.Place.{Place}

@@ -3,17 +3,15 @@ use crate::lengths;
 use crate::run;
 use crate::run::Run;
 use crate::run::Step;
-use script::First;
-use script::Store;
-use script::head;
-use script::listing;
+use setup::First;
+use setup::Store;
 use sizes::Outcome;
 ghost use mathlib.Core.Path.{_≡_};
 ghost use mathlib.Core.List.{[]};
 ghost use Prim.Native.Nat.{_≤_};
 ghost use lib.ListN.{length};
-ghost use Rattle.script.specs.Lines.{storeOf, startGood};
-ghost use Rattle.script.specs.Listing.{Wrote, mostRow};
+ghost use Rattle.setup.specs.Setup.{storeOf, startGood};
+ghost use Rattle.listing.specs.Listing.{Wrote, mostRow};
 ghost use Rattle.shelf.specs.Shelf.{nothing, shelf};
 ghost use Rattle.shelf.specs.Run.{firstStep, Second, Became, secondStep};
 
@@ -58,7 +56,7 @@ pub fn first(line: &[u8], out: &mut [u8]) -> Step
     requires { ⌜ mostRow ≤ length (now out) ⌝ }
     ensures { λ r. ⌜ (r .run ≡ firstStep (storeOf (now (line .entry))) nothing .run) × Wrote (now (out .entry)) 0 (firstStep (storeOf (now (line .entry))) nothing .text) (now (out .exit)) (r .written) × (r .written ≤ mostRow) ⌝ }
 {
-    match head::store_line(line) {
+    match setup::store_line(line) {
         First::Bad => run::bad(out),
         First::Is(store) => Step {
             run: Run::Second(store),
@@ -79,7 +77,7 @@ pub fn second(
     ensures { λ r. ⌜ Became (secondStep (startGood (store .ids) (now (line .entry))) store (now (line .entry)) (shelf (now (desk .entry)) [] [] [] (now (leaves .entry)))) (now (out .entry)) (now (out .exit)) (r .run) (r .written) (shelf (now (desk .exit)) [] [] [] (now (leaves .exit))) ⌝ }
 {
     let n = store.ids as usize;
-    if !head::start_line(line, &mut leaves[..n]) {
+    if !setup::start_line(line, &mut leaves[..n]) {
         return run::bad(out);
     }
     let m = lengths::desk_len(store);

@@ -1,5 +1,5 @@
 // How long the desk, the tree and a path of a store are, and the most that they can be on the shelf. Assumes nothing.
-use script::Store;
+use setup::Store;
 use sizes::Sizes;
 ghost use mathlib.Core.Path.{_≡_};
 ghost use Prim.Native.Nat.{_≤_};

@@ -1,11 +1,10 @@
-// shelf: standard input is a script, standard output its listing. Reading and listing are in the crate `script`; what a line does is in `run`.
+// shelf: standard input is a script, standard output its listing. Lines are found in `window` and read in `setup` and `script`, those of the listing written in `listing`; what a line does is in `run`.
 mod head;
 mod lengths;
 mod request;
 mod run;
 mod turns;
 
-use script::listing;
 use sizes::Sizes;
 
 fn main() {

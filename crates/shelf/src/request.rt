@@ -4,13 +4,11 @@ use crate::run;
 use crate::run::Run;
 use crate::run::Step;
 use desk::Kind;
+use listing::Answer;
+use listing::Shown;
 use requests::Answered;
-use script::Answer;
 use script::Line;
-use script::Shown;
-use script::Store;
-use script::listing;
-use script::request;
+use setup::Store;
 use store::Finished;
 ghost use mathlib.Core.Path.{_≡_};
 ghost use mathlib.Core.List.{[]};
@@ -18,7 +16,7 @@ ghost use Prim.Native.Nat.{_≤_};
 ghost use lib.ListN.{length};
 ghost use Rattle.sizes.specs.Sizes.{recordLen};
 ghost use Rattle.script.specs.Lines.{requestOf};
-ghost use Rattle.script.specs.Listing.{Wrote, mostRow};
+ghost use Rattle.listing.specs.Listing.{Wrote, mostRow};
 ghost use Rattle.shelf.specs.Shelf.{shelf};
 ghost use Rattle.shelf.specs.Run.{Holds, Ready, Answers, Became, requestOn, requestStep, answerOf, rowFor};
 
@@ -103,7 +101,7 @@ pub fn ready(
     requires { ⌜ Ready store count (now desk) (now tree) (now path) (now «record») (now out) ⌝ }
     ensures { λ r. ⌜ Became (requestStep (requestOf (now (line .entry))) store count (now (line .entry)) (shelf (now (desk .entry)) (now (tree .entry)) (now (path .entry)) (now («record» .entry)) [])) (now (out .entry)) (now (out .exit)) (r .run) (r .written) (shelf (now (desk .exit)) (now (tree .exit)) (now (path .exit)) (now («record» .exit)) []) ⌝ }
 {
-    match request::request_line(line) {
+    match script::request_line(line) {
         Line::Bad => run::bad(out),
         Line::Request {
             kind,
@@ -111,7 +109,7 @@ pub fn ready(
             leaf,
             text,
         } => {
-            request::lay_text(record, &line[text..]);
+            script::lay_text(record, &line[text..]);
             let answered = answer(store, kind, id, leaf, desk, tree, path, record);
             let n = count + 1;
             let written = put_row(out, n, kind, id, answered, record);

@@ -1,13 +1,12 @@
 // The run of a script, line by line, over a store's buffers and a tree of its own. What a line does is `stepOf` of specs/Run.antt. Assumes nothing.
 use crate::head;
 use crate::request;
-use script::Store;
-use script::listing;
+use setup::Store;
 ghost use mathlib.Core.Path.{_≡_};
 ghost use Prim.Native.Nat.{_≤_};
 ghost use lib.ListN.{length};
-ghost use Rattle.script.specs.Text.{badLine};
-ghost use Rattle.script.specs.Listing.{Wrote, mostRow};
+ghost use Rattle.text.specs.Text.{badLine};
+ghost use Rattle.listing.specs.Listing.{Wrote, mostRow};
 ghost use Rattle.shelf.specs.Shelf.{shelf};
 ghost use Rattle.shelf.specs.Run.{Became, stepOf, isOver, endText, Runs};
 

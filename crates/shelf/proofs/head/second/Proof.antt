@@ -7,7 +7,7 @@ use borrow.Author.Tests.{not-true, not-false}
 use denote.Ref.{now}
 use lib.ListN.{length, drop}
 use lib.Seq.{length-take-le, take-at}
-use Rattle.script.specs.Lines.{startGood}
+use Rattle.setup.specs.Setup.{startGood}
 use Rattle.shelf.specs.Shelf.{shelf}
 use Rattle.shelf.specs.Run.{secondStep}
 use Rattle.shelf.proofs.Steps.{became, silent, second-said}

@@ -3,7 +3,8 @@ use Prim.Native.Nat.{_+_, _^_, _<_}
 use mathlib.Core.Path.{refl, ap, subst}
 use native.Mathlib.Omega.{arith}
 use denote.Ref.{now}
-use Rattle.script.specs.Lines.{storeOf, startGood, requestOf}
+use Rattle.setup.specs.Setup.{storeOf, startGood}
+use Rattle.script.specs.Lines.{requestOf}
 use Rattle.shelf.specs.declared.run.Run.{Run}
 use Rattle.shelf.specs.Shelf.{shelf}
 use Rattle.shelf.specs.Run.{stepOf, Sound, countOf}

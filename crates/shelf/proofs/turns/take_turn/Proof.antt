@@ -1,6 +1,6 @@
 -- `shelf::turns::take_turn` meets its contract: a line lies in the window. Assumes nothing.
 use mathlib.Core.Path.{subst}
-use Rattle.script.specs.Pieces.{Ahead}
+use Rattle.window.specs.Pieces.{Ahead}
 use borrow.Author.Needs.{needs}
 use Rattle.shelf.proofs.turns.take_turn.Statement.{statement}
 use Rattle.shelf.proofs.turns.take_turn.Tie as tie
