@@ -25,8 +25,6 @@ use Rattle.store.specs.Finish.{FinishResult}
 use Rattle.requests.specs.declared.Answered.{Answered}
 use Rattle.requests.specs.declared.Answered.the-variants as answered
 use Rattle.keeping.specs.Table.{Table, plainAnswer, plainBuffer}
-use Rattle.verdicts.specs.declared.Verdict.{Verdict}
-use Rattle.verdicts.specs.declared.Reading.{Reading}
 use Rattle.verdicts.specs.declared.counts.Cell.{Cell}
 use Rattle.verdicts.specs.declared.counts.Found.{Found}
 use Rattle.verdicts.specs.declared.counts.Found.the-variants as found

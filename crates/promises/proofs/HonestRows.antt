@@ -15,12 +15,7 @@ use Rattle.sizes.specs.declared.Outcome.the-variants as outcome
 use Rattle.sizes.specs.Sizes.{recordLen, pathLen}
 use Rattle.desk.specs.Readers.{sizesOf}
 use Rattle.items.specs.Real.{real}
-use Rattle.asks.specs.declared.Asked.{Asked}
-use Rattle.store.specs.declared.Finished.{Finished}
-use Rattle.requests.specs.declared.Answered.{Answered}
 use Rattle.keeping.specs.Table.{Table}
-use Rattle.verdicts.specs.declared.Verdict.{Verdict}
-use Rattle.verdicts.specs.declared.Reading.{Reading}
 use Rattle.verdicts.specs.declared.counts.Cell.{Cell}
 use Rattle.verdicts.specs.declared.counts.Cell.the-variants.{Passed}
 use Rattle.verdicts.specs.declared.counts.Found.{Found}

@@ -25,6 +25,8 @@ use Rattle.store.specs.declared.Finished.the-variants as finished
 use Rattle.store.specs.Steps.{answerFor, wasMarked}
 use Rattle.store.specs.Finish.{finishRows, finishChecked, finishedOr, finishOf, finishedValue}
 use Rattle.requests.specs.Request.{requestOf}
+use Rattle.verdicts.specs.Verdict.{readingOf, makeOf}
+use Rattle.book.specs.MatrixRow.{rowRows, rowChecked, rowOf}
 use Rattle.promises.specs.Stores.{ours, Start, formatFor}
 use Rattle.promises.specs.DemandOne.{OnlyStatus, ByRows, One, DemandOne}
 use Rattle.promises.proofs.Rows.{reads}
@@ -104,6 +106,12 @@ tree-read s leaf tree path =
     reads (treeRows s leaf tree path) (treeChecked s leaf tree path) Refused formatValue (treeChecked s leaf tree path) refl (λ q h. h) (λ q h. h) (λ q. refl)
     (ap formatValue)
 
+row-read : (desk tree : List ℕ) (first end : ℕ) (draws : List ℕ) → ByRows (rowRows desk tree first end draws) (rowChecked desk tree first end draws) Refused formatValue
+unfolding rowChecked
+row-read desk tree first end draws =
+    reads (rowRows desk tree first end draws) (rowChecked desk tree first end draws) Refused formatValue (rowChecked desk tree first end draws) refl (λ q h. h)
+    (λ q h. h) (λ q. refl) (ap formatValue)
+
 pub demand-one : (m : Means) → DemandOne m (ours m)
 demand-one m =
     record {
@@ -124,6 +132,10 @@ demand-one m =
       put-once = λ s leaf tree path. once (putOf s leaf tree path);
       request-once = λ desk tree path buffer kind id leaf. once (requestOf desk tree path buffer kind id leaf);
       good-once = λ desk. once (goodDesk desk);
+      row-by-rows = row-read;
+      row-once = λ desk tree chapter first end draws. once (rowOf desk tree chapter first end draws);
+      read-once = λ rec. once (readingOf rec);
+      make-once = λ lent v chapter year name. once (makeOf lent v chapter year name);
       digest-once = λ text. once (m .digest text);
       cipher-once = λ key nonce text. once (m .cipher key nonce text);
     }

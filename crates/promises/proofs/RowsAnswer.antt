@@ -32,7 +32,7 @@ use Rattle.promises.specs.Stores.{ours, Start, Accepted}
 use Rattle.promises.specs.DemandTwo.{Kept}
 use Rattle.promises.specs.Trees.{TreeState, TreeReached, fetchedBy}
 use Rattle.promises.specs.Requests.{requestFor, twoTurns, AsTurns}
-use Rattle.promises.specs.Rows.{rowIn, AllLeaves, InOrder}
+use Rattle.promises.specs.Rows.{rowIn, AllLeaves, MayBegin}
 use Rattle.promises.proofs.Answers.{accept-record, accept-never, accept-done}
 use Rattle.promises.proofs.Trees.{demand-two-tree}
 use Rattle.promises.proofs.Requests.{as-turns}
@@ -121,7 +121,7 @@ module _ (b : Start) (byte : b .room < 256) where
 -- ---- the row
 
 module _ (b : Start) (byte : b .room < 256) (ts : TreeState) (reached : TreeReached (ours real) b ts) (chapter first end : ℕ) (draws : List ℕ)
-    (o : InOrder b ts first end draws) (q : Refusal) (h : rowIn ts chapter first end draws .answer ≡ Refused q) where
+    (o : MayBegin b ts first end draws) (q : Refusal) (h : rowIn ts chapter first end draws .answer ≡ Refused q) where
   kept : Kept real (ours real) b (fetchedBy b ts) (ts .state)
   kept = demand-two-tree real real-sound b byte ts reached .kept
 

@@ -34,7 +34,7 @@ use Rattle.book.specs.MatrixRow.{ReadResult, RunResult, foundBy, lookedBy, read
 use Rattle.book.proofs.Passed.{row-passed}
 use Rattle.promises.specs.Stores.{ours, formatFor}
 use Rattle.promises.specs.DemandThree.{Around, finishThen, shownIf, goOn, shows, Run, leavesOf}
-use Rattle.promises.specs.Rows.{leafAsked, readsShow, rowShowsBy, rowShows, Deed, request, row, allIds, goOnRow, deedsShow, deedLeaves, ThreeWithRows}
+use Rattle.promises.specs.Deeds.{leafAsked, readsShow, rowShowsBy, rowShows, Deed, request, row, allIds, goOnRow, deedsShow, deedLeaves, ThreeWithRows}
 use Rattle.promises.proofs.Three.{Begins, begins-at, begins-length, demand-three, leaf-at, shown-once}
 use Rattle.promises.proofs.BookRows.{not-counted, was-done}
 

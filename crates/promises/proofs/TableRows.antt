@@ -8,12 +8,6 @@ use native.Mathlib.Omega.{arith}
 use lib.Dec.{eqb}
 use borrow.Author.Tests.{eqb-true, eq-eqb}
 use Rattle.words.proofs.Tests.{byCases, below-or}
-use Rattle.sizes.specs.declared.Sizes.{Sizes}
-use Rattle.sizes.specs.declared.Refusal.{Refusal}
-use Rattle.sizes.specs.declared.Outcome.{Outcome}
-use Rattle.asks.specs.declared.Asked.{Asked}
-use Rattle.store.specs.declared.Finished.{Finished}
-use Rattle.requests.specs.declared.Answered.{Answered}
 use Rattle.keeping.specs.Table.{Table}
 use Rattle.verdicts.specs.declared.Verdict.{Verdict}
 use Rattle.verdicts.specs.declared.Verdict.the-variants as verdict
@@ -21,7 +15,6 @@ use Rattle.verdicts.specs.declared.Reading.{Reading}
 use Rattle.verdicts.specs.declared.Reading.the-variants as reading
 use Rattle.verdicts.specs.declared.counts.Cell.{Cell}
 use Rattle.verdicts.specs.declared.counts.Cell.the-variants.{Passed, Failed, Skipped, Errors, Bad, NotRun}
-use Rattle.verdicts.specs.declared.counts.Found.{Found}
 use Rattle.verdicts.specs.declared.counts.Counts.{Counts}
 use Rattle.verdicts.specs.Verdict.{readingOf}
 use Rattle.verdicts.specs.Cells.{verdictCell, readingCell, recordCell, plus}

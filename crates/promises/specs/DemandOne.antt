@@ -22,6 +22,9 @@ use Rattle.formats.specs.Format.{formatRows, formatValue}
 use Rattle.store.specs.declared.Finished.the-variants as finished
 use Rattle.store.specs.Finish.{finishRows, finishedValue}
 use Rattle.requests.specs.Request.{requestOf}
+use Rattle.verdicts.specs.declared.Verdict.{Verdict}
+use Rattle.verdicts.specs.Verdict.{readingOf, makeOf}
+use Rattle.book.specs.MatrixRow.{rowRows, rowChecked, rowOf}
 use Rattle.promises.specs.Stores.{Store, Start, formatFor}
 
 -- ---- what a refusal changes
@@ -80,8 +83,14 @@ pub record DemandOne (m : Means) (store : Store) : Type 0 where
   pub put-refuses : (s : Sizes) (leaf : ℕ) (tree path : List ℕ) (q : Refusal) → putOf s leaf tree path .answer ≡ Refused q
       → (putOf s leaf tree path .tree ≡ tree) × (putOf s leaf tree path .path ≡ path)
   pub put-once : (s : Sizes) (leaf : ℕ) (tree path : List ℕ) → One (putOf s leaf tree path)
-  -- a whole request; whether a desk is good; the digest and the cipher
+  -- a whole request; whether a desk is good
   pub request-once : (desk tree path buffer : List ℕ) (kind : Kind) (id leaf : ℕ) → One (requestOf desk tree path buffer kind id leaf)
   pub good-once : (desk : List ℕ) → One (goodDesk desk)
+  -- a row of the verdict book: its own checks in order; a record read, and made
+  pub row-by-rows : (desk tree : List ℕ) (first end : ℕ) (draws : List ℕ) → ByRows (rowRows desk tree first end draws) (rowChecked desk tree first end draws) Refused formatValue
+  pub row-once : (desk tree : List ℕ) (chapter first end : ℕ) (draws : List ℕ) → One (rowOf desk tree chapter first end draws)
+  pub read-once : (rec : List ℕ) → One (readingOf rec)
+  pub make-once : (lent : List ℕ) (v : Verdict) (chapter year : ℕ) (name : List ℕ) → One (makeOf lent v chapter year name)
+  -- the digest and the cipher
   pub digest-once : (text : List ℕ) → One (m .digest text)
   pub cipher-once : (key nonce text : List ℕ) → One (m .cipher key nonce text)

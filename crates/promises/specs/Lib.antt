@@ -7,6 +7,7 @@ pub mod Trees
 pub mod Requests
 pub mod DemandThree
 pub mod Rows
+pub mod Deeds
 pub mod Exists
 pub mod Wrong
 pub mod Figures

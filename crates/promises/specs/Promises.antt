@@ -7,7 +7,8 @@ use Rattle.promises.specs.DemandTwo.{Exactly, DemandTwo, DemandTwoReacha
 use Rattle.promises.specs.Trees.{DemandTwoTree}
 use Rattle.promises.specs.Requests.{WholeRequests}
 use Rattle.promises.specs.DemandThree.{DemandThree, InOrder, ShownByDraws, ShownOnce, ShownLast}
-use Rattle.promises.specs.Rows.{HonestRows, AnyRow, ThreeWithRows}
+use Rattle.promises.specs.Rows.{HonestRows, AnyRow}
+use Rattle.promises.specs.Deeds.{ThreeWithRows}
 use Rattle.promises.specs.Exists.{Exists}
 use Rattle.promises.specs.Wrong.{ShutOut}
 use Rattle.promises.specs.Figures.{Figures}

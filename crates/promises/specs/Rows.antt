@@ -1,23 +1,20 @@
--- Rows of the verdict book. Over an honest server a row is the plain table's own row; and a row asks for the leaves of its range, one after the other,
--- whatever it finds there, so that demand 3 holds of runs with rows in them. Assumes nothing.
+-- Rows of the verdict book. Over an honest server a row is the plain table's own row; on every input its six counts add up. Assumes nothing.
 use Prim.Native.Nat.{ℕ, zero, suc, _+_, _-_, _<_, _≤_}
 use mathlib.Core.Path.{_≡_}
 use mathlib.Core.Logic.{_≢_, _↔_, _⊎_}
 use mathlib.Core.Bool.{Bool, true, false}
 use mathlib.Core.Option.{Option, none, some}
-use mathlib.Core.List.{List, [], _∷_, _++_}
-use lib.ListN.{length, getD, take, drop}
-use Rattle.words.specs.Bytes.{zeros}
+use mathlib.Core.List.{List, [], _∷_}
+use lib.ListN.{length, getD}
 use Rattle.sizes.specs.declared.Refusal.{Refusal}
 use Rattle.sizes.specs.declared.Refusal.the-variants.{Forged, Worn, Full}
 use Rattle.sizes.specs.declared.Outcome.{Outcome}
 use Rattle.sizes.specs.declared.Outcome.the-variants as outcome
-use Rattle.sizes.specs.Sizes.{recordLen, leaves, pathLen, treeLen}
+use Rattle.sizes.specs.Sizes.{leaves, treeLen}
 use Rattle.desk.specs.declared.Kind.the-variants.{Read}
-use Rattle.desk.specs.Readers.{sizesOf, statusOf}
+use Rattle.desk.specs.Readers.{statusOf}
 use Rattle.desk.specs.Status.{readyStatus}
 use Rattle.items.specs.Real.{real}
-use Rattle.draws.specs.Draws.{AllGood, leavesShown, from, indices, rearrange, rearranged}
 use Rattle.store.specs.declared.Finished.the-variants as finished
 use Rattle.requests.specs.declared.Answered.{Answered}
 use Rattle.requests.specs.declared.Answered.the-variants as answered
@@ -37,7 +34,6 @@ use Rattle.book.specs.MatrixRow.{RowResult, rowChecked, rowOf}
 use Rattle.promises.specs.Stores.{ours, Start, formatFor}
 use Rattle.promises.specs.Trees.{TreeState, TreeReached}
 use Rattle.promises.specs.Exists.{Proper}
-use Rattle.promises.specs.DemandThree.{Around, shownIf, goOn, finishThen, Run}
 
 -- ---- the plain table's row
 
@@ -82,8 +78,8 @@ pub record CountsTable (ts : TreeState) (chapter first end : ℕ) (c : Counts) (
 abbrev pub AllLeaves : Start → List ℕ → Type 0
 AllLeaves b draws = (i : ℕ) → i < length draws → getD draws i 0 < leaves (b .sizes)
 
--- a row from a ready desk, whose own checks refuse nothing, with leaves for its draws
-pub record InOrder (b : Start) (ts : TreeState) (first end : ℕ) (draws : List ℕ) : Type 0 where
+-- a row may begin: its desk is ready, its own checks refuse nothing, and its draws are leaves
+pub record MayBegin (b : Start) (ts : TreeState) (first end : ℕ) (draws : List ℕ) : Type 0 where
   pub ready : statusOf (ts .state .desk) ≡ readyStatus
   pub checked : rowChecked (ts .state .desk) (ts .tree) first end draws ≡ outcome.Done
   pub all-leaves : AllLeaves b draws
@@ -95,12 +91,12 @@ pub record HonestRows : Type 0 where
       → LeavesTable b ts (rowIn ts chapter first end draws)
   pub never-forged : (b : Start) → b .room < 256 → (ts : TreeState) → TreeReached (ours real) b ts → (chapter first end : ℕ) (draws : List ℕ)
       → rowIn ts chapter first end draws .answer ≢ Refused Forged
-  -- a row in order is counted, or it ends as Worn or Full: no other refusal ends it
+  -- a row that may begin is counted, or it ends as Worn or Full: no other refusal ends it
   pub answers : (b : Start) → b .room < 256 → (ts : TreeState) → TreeReached (ours real) b ts → (chapter first end : ℕ) (draws : List ℕ)
-      → InOrder b ts first end draws → (q : Refusal) → rowIn ts chapter first end draws .answer ≡ Refused q → (q ≡ Worn) ⊎ (q ≡ Full)
+      → MayBegin b ts first end draws → (q : Refusal) → rowIn ts chapter first end draws .answer ≡ Refused q → (q ≡ Worn) ⊎ (q ≡ Full)
   -- where the stash has room for every id, as Worn alone
   pub roomy : (b : Start) → b .room < 256 → b .ids ≤ b .room → (ts : TreeState) → TreeReached (ours real) b ts → (chapter first end : ℕ) (draws : List ℕ)
-      → InOrder b ts first end draws → (q : Refusal) → rowIn ts chapter first end draws .answer ≡ Refused q → q ≡ Worn
+      → MayBegin b ts first end draws → (q : Refusal) → rowIn ts chapter first end draws .answer ≡ Refused q → q ≡ Worn
   -- there are counted rows: on a fresh store, over a tree with any bytes, a row of one id is counted, and its case is not run
   pub first-row : (b : Start) (lent : List ℕ) → Proper b lent → 1 ≤ b .room → (tree : List ℕ) → length tree ≡ treeLen (b .sizes)
       → (chapter id draw : ℕ) → 1 ≤ id → id ≤ b .ids → AllLeaves b (draw ∷ [])
@@ -119,73 +115,3 @@ pub record AnyRow : Type 0 where
       × (rowOf desk tree chapter first end draws .tree ≡ tree)
   -- a read is never answered by Done: so the column that `foundOf` gives to Done stands for no read
   pub never-done : (desk tree path buffer : List ℕ) (id draw p : ℕ) → requestOf desk tree path buffer Read id draw .answer ≢ answered.Asked p finished.Done
-
--- ---- demand 3 with rows among the requests
-
--- the leaves that the reads of a row ask for, from `id` on: a refusal ends them
-abbrev pub leafAsked : Answered → List ℕ → List ℕ
-leafAsked (answered.Refused q) more = []
-leafAsked (answered.Asked leaf f) more = leaf ∷ goOn f more
-
-unfoldable pub readsShow : ℕ → List ℕ → List ℕ → List ℕ → List ℕ → List ℕ → List ℕ
-readsShow id [] desk tree path buffer = []
-readsShow id (x ∷ xs) desk tree path buffer =
-    let r = requestOf desk tree path buffer Read id x in
-    leafAsked (r .answer) (readsShow (suc id) xs (r .desk) (r .tree) (r .path) (r .buffer))
-
-abbrev pub rowShowsBy : Outcome → List ℕ → List ℕ → ℕ → List ℕ → List ℕ
-rowShowsBy (outcome.Refused q) desk tree first draws = []
-rowShowsBy outcome.Done desk tree first draws = readsShow first draws desk tree (zeros (pathLen (sizesOf desk))) (zeros recordLen)
-
-abbrev pub rowShows : List ℕ → List ℕ → ℕ → ℕ → List ℕ → List ℕ
-rowShows desk tree first end draws = rowShowsBy (rowChecked desk tree first end draws) desk tree first draws
-
--- what is done in a run: a request of an id in its surroundings, or a row of a chapter over a tree with any bytes
-pub data Deed : Type 0 where
-  request : ℕ → Around → Deed
-  row : List ℕ → ℕ → ℕ → ℕ → Deed
-
--- the ids that it asks for: those of a row are its range
-abbrev pub idsAsked : Deed → List ℕ
-idsAsked (request u e) = u ∷ []
-idsAsked (row tree chapter first end) = from first (end - first)
-
-abbrev pub allIds : List Deed → List ℕ
-allIds [] = []
-allIds (d ∷ ds) = idsAsked d ++ allIds ds
-
--- a run ends at its first refusal, a row's too
-abbrev pub goOnRow : Row → List ℕ → List ℕ
-goOnRow (Counted c complete) more = more
-goOnRow (Refused q) more = []
-
--- the leaves that a run shows: from a desk, for deeds, with draws for them: a request takes one, a row one for each id of its range
-unfoldable pub deedsShow : List ℕ → List Deed → List ℕ → List ℕ
-deedsShow desk [] xs = []
-deedsShow desk (request u e ∷ ds) [] = []
-deedsShow desk (request u e ∷ ds) (x ∷ xs) =
-    shownIf (ours real .ask desk (e .kind) u x (e .content) .answer)
-    (λ p. p ∷ goOn (finishThen (ours real) desk u x e .answer) (deedsShow (finishThen (ours real) desk u x e .desk) ds xs))
-deedsShow desk (row tree chapter first end ∷ ds) xs =
-    let ys = take (end - first) xs in
-    rowShows desk tree first end ys
-    ++ goOnRow (rowOf desk tree chapter first end ys .answer) (deedsShow (rowOf desk tree chapter first end ys .desk) ds (drop (end - first) xs))
-
--- from format: the deeds have their own surroundings, so those of the run are not looked at
-abbrev pub deedLeaves : (n : ℕ) (ds : List Deed) (draws : List ℕ) → Run n draws → List ℕ
-deedLeaves n ds draws r = deedsShow (formatFor (r .start) (r .lent) .desk) ds (drop n draws)
-
--- the statements of demand 3, word for word, with the ids of the deeds in the place of the ids
-pub record ThreeWithRows : Type 0 where
-  pub three : (n : ℕ) (ds es : List Deed) → length (allIds ds) ≡ length (allIds es) → AllGood n (allIds ds) → AllGood n (allIds es)
-      → (draws : List ℕ) → length draws ≡ n + length (allIds ds)
-      → (r : Run n draws) (r′ : Run n (rearranged draws (rearrange n (allIds ds) (allIds es))))
-      → (j : ℕ) → j < length (deedLeaves n ds draws r) → j < length (deedLeaves n es (rearranged draws (rearrange n (allIds ds) (allIds es))) r′)
-      → getD (deedLeaves n ds draws r) j 0 ≡ getD (deedLeaves n es (rearranged draws (rearrange n (allIds ds) (allIds es))) r′) j 0
-  pub shown-by-draws : (n : ℕ) (ds : List Deed) (draws : List ℕ) → AllGood n (allIds ds) → (r : Run n draws)
-      → (j : ℕ) → j < length (deedLeaves n ds draws r) → getD (deedLeaves n ds draws r) j 0 ≡ getD (leavesShown n (allIds ds) draws) j 0
-  pub shown-once : (n : ℕ) (ds : List Deed) (draws : List ℕ) → AllGood n (allIds ds) → length draws ≡ n + length (allIds ds) → (r : Run n draws)
-      → (j : ℕ) → j < length (deedLeaves n ds draws r) → getD (deedLeaves n ds draws r) j 0 ≡ getD draws (getD (indices n (allIds ds)) j 0) 0
-  -- and a row that is counted has asked for a leaf for each id of its range, whatever it found there and whatever desk and tree are
-  pub asks-for-each : (desk tree : List ℕ) (chapter first end : ℕ) (draws : List ℕ) (c : Counts) (complete : Bool)
-      → rowOf desk tree chapter first end draws .answer ≡ Counted c complete → length (rowShows desk tree first end draws) ≡ end - first
