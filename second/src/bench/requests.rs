@@ -8,12 +8,32 @@ use crate::store::Store;
 use std::hint::black_box;
 use std::time::Duration;
 
-pub const SIZES: [(u8, u8, u16, u8); 4] = [
-    (3, 4, 9, 20),
-    (8, 4, 512, 64),
-    (12, 4, 4096, 128),
-    (12, 8, 4096, 255),
+pub const SIZES: [Sizes; 4] = [
+    sized(3, 4, 9, 20),
+    sized(8, 4, 512, 64),
+    sized(12, 4, 4096, 128),
+    sized(12, 8, 4096, 255),
 ];
+
+const fn sized(height: u8, slots: u8, ids: u16, stash: u8) -> Sizes {
+    Sizes {
+        height,
+        slots,
+        stash,
+        ids,
+    }
+}
+
+/// Sizes as a table's first column has them.
+pub fn named(sizes: Sizes) -> String {
+    let Sizes {
+        height,
+        slots,
+        stash,
+        ids,
+    } = sizes;
+    format!("L={height} Z={slots} N={ids} S={stash}")
+}
 
 /// About how many bytes of paths one run goes through.
 const PATH_BYTES: usize = 256 << 10;
@@ -50,15 +70,9 @@ pub fn run(sides: &[Side]) {
         cells.push(format!("{name} whole request to them"));
     }
     head(&cells);
-    for (height, slots, ids, stash) in SIZES {
-        let sizes = Sizes {
-            height,
-            slots,
-            stash,
-            ids,
-        };
+    for sizes in SIZES {
         let best = measure(sides, sizes);
-        let mut cells = vec![format!("L={height} Z={slots} N={ids} S={stash}")];
+        let mut cells = vec![named(sizes)];
         let rates: Vec<f64> = best
             .iter()
             .map(|best| 1.0 / best.request.as_secs_f64())

@@ -1,6 +1,6 @@
 //! What an id costs in a row, beside a read request by itself.
 
-use super::requests::{micros, Warm, SIZES};
+use super::requests::{micros, named, Warm, SIZES};
 use super::{head, row, time, Side, RUNS};
 use crate::format::Sizes;
 use crate::row::Asked;
@@ -19,18 +19,9 @@ pub fn run(sides: &[Side]) {
         cells.push(format!("{name} row to reads"));
     }
     head(&cells);
-    for (height, slots, ids, stash) in SIZES {
-        let sizes = Sizes {
-            height,
-            slots,
-            stash,
-            ids,
-        };
-        let length = ids.min(LENGTH);
-        let mut cells = vec![
-            format!("L={height} Z={slots} N={ids} S={stash}"),
-            length.to_string(),
-        ];
+    for sizes in SIZES {
+        let length = sizes.ids.min(LENGTH);
+        let mut cells = vec![named(sizes), length.to_string()];
         for [in_row, alone] in measure(sides, sizes, length) {
             let (in_row, alone) = (micros(in_row), micros(alone));
             cells.push(format!("{in_row:.1}"));
