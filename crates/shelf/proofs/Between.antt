@@ -6,12 +6,12 @@ use mathlib.Core.List.{List}
 use native.Mathlib.Omega.{arith}
 use lib.ListN.{length}
 use Rattle.setup.specs.Setup.{mostLine}
-use Rattle.shelf.specs.declared.run.Run.the-variants as run
+use Rattle.runs.specs.declared.run.Run.the-variants as run
 use Rattle.shelf.specs.declared.turns.Place.{Place}
 use Rattle.shelf.specs.declared.turns.Turn.{Turn}
 use Rattle.shelf.specs.declared.turns.Turn.the-variants as turn
-use Rattle.shelf.specs.Shelf.{shelf, Lent}
-use Rattle.shelf.specs.Run.{isOver, Sound, countOf}
+use Rattle.runs.specs.Shelf.{shelf, Lent}
+use Rattle.runs.specs.Run.{isOver, Sound, countOf}
 use Rattle.shelf.specs.Turns.{Left, Turned}
 
 pub record Between (w₀ d₀ t₀ p₀ b₀ l₀ o₀ w d t p b l o : List ℕ) (at : Place) (turns : ℕ) : Type 0 where

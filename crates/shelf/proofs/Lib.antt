@@ -1,4 +1,2 @@
-pub mod Steps
-pub mod Frames
 pub mod Long
 pub mod Between

@@ -11,10 +11,10 @@ use Rattle.setup.specs.declared.First.{First}
 use Rattle.setup.specs.Setup.{mostLine}
 use Rattle.script.specs.declared.Line.{Line}
 use Rattle.script.proofs.Bounds.{too-long}
-use Rattle.shelf.specs.declared.run.Run.{Run}
-use Rattle.shelf.specs.declared.run.Run.the-variants as run
-use Rattle.shelf.specs.Shelf.{Shelf}
-use Rattle.shelf.specs.Run.{firstStep, secondStep, requestStep, stepOf, isOver, Sound}
+use Rattle.runs.specs.declared.run.Run.{Run}
+use Rattle.runs.specs.declared.run.Run.the-variants as run
+use Rattle.runs.specs.Shelf.{Shelf}
+use Rattle.runs.specs.Run.{firstStep, secondStep, requestStep, stepOf, isOver, Sound}
 use Rattle.shelf.specs.Turns.{Said}
 
 ends : (r : Run) (xs : List ℕ) (sh : Shelf) → mostLine < length xs → Sound r → isOver r ≡ false → (stepOf r xs sh .run ≡ run.Over) × (stepOf r xs sh .text ≡ badLine)

@@ -1,3 +1,1 @@
-pub mod Shelf
-pub mod Run
 pub mod Turns

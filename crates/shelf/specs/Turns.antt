@@ -6,13 +6,13 @@ use mathlib.Core.List.{List, _++_}
 use lib.ListN.{length}
 use Rattle.words.specs.Bytes.{splice}
 use Rattle.setup.specs.Setup.{mostLine}
-use Rattle.shelf.specs.declared.run.Run.{Run}
-use Rattle.shelf.specs.declared.run.Run.the-variants as run
+use Rattle.runs.specs.declared.run.Run.{Run}
+use Rattle.runs.specs.declared.run.Run.the-variants as run
 use Rattle.shelf.specs.declared.turns.Place.{Place}
 use Rattle.shelf.specs.declared.turns.Turn.{Turn}
 use Rattle.shelf.specs.declared.turns.Turn.the-variants as turn
-use Rattle.shelf.specs.Shelf.{Shelf}
-use Rattle.shelf.specs.Run.{Moved, stepOf, isOver, Sound, countOf, Runs}
+use Rattle.runs.specs.Shelf.{Shelf}
+use Rattle.runs.specs.Run.{Moved, stepOf, isOver, Sound, countOf, Runs}
 
 -- the unread text stands in the window from `from` up to `to`, and every line that can be read has room there
 pub record Inside (at : Place) (window : List ℕ) : Type 0 where

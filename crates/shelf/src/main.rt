@@ -1,10 +1,7 @@
-// shelf: standard input is a script, standard output its listing. Lines are found in `window` and read in `setup` and `script`, those of the listing written in `listing`; what a line does is in `run`.
-mod head;
-mod lengths;
-mod request;
-mod run;
+// shelf: standard input is a script, standard output its listing. Lines are found in `window` and read in `setup` and `script`, those of the listing written in `listing`; what a line does is in `runs`.
 mod turns;
 
+use runs::lengths;
 use sizes::Sizes;
 
 fn main() {

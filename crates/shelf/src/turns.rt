@@ -1,18 +1,18 @@
 // The script read in pieces and its listing written, turn by turn: what bytes there are goes to `run`, and what it lists goes out.
 // A run ends where the script does, at a line that can't be read, at a refused format, or where the output can't be written.
-use crate::run;
-use crate::run::Run;
 use libc::STDERR_FILENO;
 use libc::STDIN_FILENO;
 use libc::STDOUT_FILENO;
+use runs::run;
+use runs::run::Run;
 use window::Next;
 ghost use Prim.Native.Nat.{_+_, _-_, _≤_, _<_};
 ghost use lib.ListN.{length};
 ghost use Rattle.words.specs.Bytes.{part};
 ghost use Rattle.setup.specs.Setup.{mostLine};
 ghost use Rattle.listing.specs.Listing.{mostRow};
-ghost use Rattle.shelf.specs.Shelf.{shelf, Lent};
-ghost use Rattle.shelf.specs.Run.{Sound, countOf};
+ghost use Rattle.runs.specs.Shelf.{shelf, Lent};
+ghost use Rattle.runs.specs.Run.{Sound, countOf};
 ghost use Rattle.shelf.specs.Turns.{Inside, Placed, Turned, Listed};
 
 // Where the program stands: the unread text is in the window from `from` up to `to`, and `ended` says whether that is all that is left of the script.

@@ -5,8 +5,8 @@ use native.Mathlib.Omega.{arith}
 use denote.Ref.{now}
 use lib.ListN.{take, drop}
 use lib.Seq.{length-take-le}
-use Rattle.shelf.specs.Shelf.{shelf}
-use Rattle.shelf.proofs.Frames.{good-after}
+use Rattle.runs.specs.Shelf.{shelf}
+use Rattle.runs.proofs.Frames.{good-after}
 use Rattle.shelf.proofs.Between.{turned-in}
 use borrow.Author.Needs.{needs}
 use Rattle.shelf.proofs.turns.line.Statement.{statement}

@@ -4,7 +4,7 @@ use native.Mathlib.Omega.{arith}
 use denote.Ref.{now}
 use lib.ListN.{length}
 use Rattle.shelf.specs.declared.turns.Turn.{Turn}
-use Rattle.shelf.specs.Run.{countOf}
+use Rattle.runs.specs.Run.{countOf}
 use Rattle.shelf.specs.Turns.{Turned}
 use Rattle.shelf.proofs.Between.{Between, between-first, between-next}
 use borrow.Author.Needs.{needs}
