@@ -37,7 +37,7 @@ unfoldable pub recordCell : ℕ → List ℕ → Cell
 recordCell chapter rec = readingCell chapter (readingOf rec)
 
 -- a read's column, by its answer and the record that it left in the buffer. Never is not run, and nothing else is. A read is never answered by Done
--- (a law says so); it would be no verdict
+-- (`never-done`, in the promises); it would be no verdict
 abbrev pub foundOf : ℕ → Finished → List ℕ → Found
 foundOf chapter finished.Record rec = found.Cell (recordCell chapter rec)
 foundOf chapter finished.Never rec = found.Cell NotRun

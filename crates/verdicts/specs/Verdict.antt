@@ -1,13 +1,14 @@
 -- A verdict in a record: where its parts stand, which records can be read, what they say, and the record that is made of a verdict. Assumes nothing.
-use Prim.Native.Nat.{ℕ, suc, _+_, _-_, _<_}
+use Prim.Native.Nat.{ℕ, _+_, _-_, _<_}
 use mathlib.Core.Path.{_≡_}
 use mathlib.Core.Bool.{Bool, true, cond, _&&_}
-use mathlib.Core.List.{List, [], _∷_, _++_}
+use mathlib.Core.List.{List, _∷_, _++_}
 use lib.ListN.{length, getD}
 use lib.Dec.{leb, eqb}
 use Rattle.words.specs.Bytes.{part, zeros}
 use Rattle.words.specs.Numbers.{number, bytesOf}
 use Rattle.words.specs.Tests.{allZero}
+use Rattle.text.specs.Fronts.{before}
 use Rattle.sizes.specs.Sizes.{recordLen}
 use Rattle.slots.specs.Slots.{Bytes}
 use Rattle.verdicts.specs.declared.Verdict.{Verdict}
@@ -54,11 +55,10 @@ isVerdict x = leb 1 x && leb x 4
 abbrev pub verdictOf : ℕ → Verdict
 verdictOf x = cond (eqb x 1) Pass (cond (eqb x 2) Fail (cond (eqb x 3) Skipped Error))
 
--- ---- reading: the name ends before the first zero, and zeros follow it
+-- ---- reading: the name is what stands before the first zero, and zeros follow it
 
-unfoldable pub untilZero : List ℕ → ℕ
-untilZero [] = 0
-untilZero (x ∷ xs) = cond (eqb x 0) 0 (suc (untilZero xs))
+abbrev pub untilZero : List ℕ → ℕ
+untilZero xs = length (before 0 xs)
 
 abbrev pub isPadded : List ℕ → ℕ → Bool
 isPadded name len = allZero (part name len (length name - len))

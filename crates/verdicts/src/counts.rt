@@ -32,7 +32,7 @@ pub struct Counts {
     pub not_run: u16,
 }
 
-// A row, complete exactly if every case has passed; or the refusal that ended it, and no counts.
+// What a row answers, complete exactly if every case has passed; or the refusal that ended it, and no counts.
 pub enum Row {
     Refused(Refusal),
     Counted { counts: Counts, complete: bool },
@@ -65,7 +65,7 @@ pub fn record_cell(chapter: u8, record: &[u8]) -> Cell
     }
 }
 
-// A read's column, by its answer and the record that it left.
+// A read's column, by its answer and the record that it left. No read is answered by Done; were one, it would count as bad and paint nothing over.
 pub fn found_by(chapter: u8, finished: Finished, record: &[u8]) -> Found
     ensures { λ r. ⌜ r ≡ foundOf chapter finished (now («record» .entry)) ⌝ }
 {

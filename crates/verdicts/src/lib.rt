@@ -1,10 +1,11 @@
 // A verdict in a record: verdict, chapter, suite year, and a name that zeros follow. Assumes nothing.
 use sizes::Sizes;
+use text::bytes;
 ghost use mathlib.Core.Path.{_≡_};
 ghost use Prim.Native.Nat.{_≤_};
 ghost use lib.ListN.{length};
 ghost use Rattle.sizes.specs.Sizes.{recordLen};
-ghost use Rattle.verdicts.specs.Verdict.{mostName, verdictNumber, isVerdict, verdictOf, untilZero, isPadded, readingOf, canBeRead, headOf, recordOf, makeOf, making};
+ghost use Rattle.verdicts.specs.Verdict.{mostName, verdictNumber, isVerdict, verdictOf, isPadded, readingOf, canBeRead, headOf, recordOf, makeOf, making};
 
 pub mod counts;
 
@@ -76,20 +77,6 @@ pub fn verdict_of(x: u8) -> Verdict
     Verdict::Error
 }
 
-// How many bytes stand before the first zero.
-fn until_zero(s: &[u8]) -> usize
-    ensures { λ r. ⌜ (r ≡ untilZero (now (s .entry))) × (r ≤ length (now (s .entry))) ⌝ }
-{
-    let mut i = 0;
-    while i < s.len() {
-        if s[i] == 0 {
-            return i;
-        }
-        i += 1;
-    }
-    i
-}
-
 // Whether zeros follow a name of `len` bytes.
 fn is_padded(name: &[u8], len: usize) -> bool
     requires { ⌜ len ≤ length (now name) ⌝ }
@@ -103,7 +90,7 @@ fn read_whole(record: &[u8]) -> Reading
     requires { ⌜ length (now «record») ≡ recordLen ⌝ }
     ensures { λ r. ⌜ r ≡ readingOf (now («record» .entry)) ⌝ }
 {
-    let length = until_zero(&record[NAME..]);
+    let length = bytes::before(&record[NAME..], 0);
     let good = is_verdict(record[VERDICT])
         & (record[CHAPTER] <= MOST_CHAPTER)
         & is_padded(&record[NAME..], length);
@@ -131,7 +118,7 @@ pub fn read(record: &[u8]) -> Reading
 fn can_be_read(chapter: u8, name: &[u8]) -> bool
     ensures { λ r. ⌜ r ≡ canBeRead chapter (now (name .entry)) ⌝ }
 {
-    (chapter <= MOST_CHAPTER) & (name.len() <= MOST_NAME) & (until_zero(name) == name.len())
+    (chapter <= MOST_CHAPTER) & (name.len() <= MOST_NAME) & (bytes::before(name, 0) == name.len())
 }
 
 // What stands before the name.

@@ -4,12 +4,12 @@ use borrow.Author.Needs.{needs}
 use Rattle.verdicts.proofs.can_be_read.Statement.{statement}
 use Rattle.verdicts.proofs.can_be_read.Tie as tie
 
-until-zero-requires : tie.Need-until-zero-requires
-until-zero-requires c κs = search needs
+before-requires : tie.Need-before-requires
+before-requires c κs = search needs
 
 returns : tie.Need-returns
 unfolding canBeRead
-returns c = rw (c .until-zero .ensures .0)
+returns c = rw (c .before2 .ensures .0)
 
 pub can-be-read-spec : {M : Type 1} → statement M
-can-be-read-spec = tie.close (tie.spec until-zero-requires returns)
+can-be-read-spec = tie.close (tie.spec before-requires returns)

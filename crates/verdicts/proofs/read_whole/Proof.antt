@@ -16,19 +16,19 @@ tests : (c : tie.After-is-padded) → let a = c .before .before .before .before 
 tests c =
     let s = c .before .before .before .before .before .before .before .before in
     let a = s .args .«record» .now in
-    tests-are a _ (s .pre) (ap (λ (n : ℕ). part a nameAt (n - nameAt)) (s .pre)) (c .before .before .before .before .before .until-zero .ensures .0) (c .before .before .before .is-verdict .ensures) (c .is-padded .ensures)
+    tests-are a _ (s .pre) (ap (λ (n : ℕ). part a nameAt (n - nameAt)) (s .pre)) (c .before .before .before .before .before .before2 .ensures .0) (c .before .before .before .is-verdict .ensures) (c .is-padded .ensures)
 
-sub-until-zero : tie.Need-sub-until-zero
-sub-until-zero c = search needs
+sub-before : tie.Need-sub-before
+sub-before c = search needs
 
-part-until-zero-start : tie.Need-part-until-zero-start
-part-until-zero-start c = search needs
+part-before-start : tie.Need-part-before-start
+part-before-start c = search needs
 
-part-until-zero-end : tie.Need-part-until-zero-end
-part-until-zero-end c = search needs
+part-before-end : tie.Need-part-before-end
+part-before-end c = search needs
 
-until-zero-requires : tie.Need-until-zero-requires
-until-zero-requires c κs = search needs
+before-requires : tie.Need-before-requires
+before-requires c κs = search needs
 
 shared-slice-read-is-verdict : tie.Need-shared-slice-read-is-verdict
 shared-slice-read-is-verdict c = search needs
@@ -71,17 +71,17 @@ unfolding entryIn
 returns-2 c =
     let s = c .before .before .before .before .before .before .before .before .before .before .before .before .before in
     let a = s .args .«record» .now in
-    let n = length-is a _ (s .pre) (ap (λ (n : ℕ). part a nameAt (n - nameAt)) (s .pre)) (c .before .before .before .before .before .before .before .before .before .before .until-zero .ensures .0) in
+    let n = length-is a _ (s .pre) (ap (λ (n : ℕ). part a nameAt (n - nameAt)) (s .pre)) (c .before .before .before .before .before .before .before .before .before .before .before2 .ensures .0) in
     rw (c .before .before .verdict-of .ensures, c .get16 .ensures, n) (sym (reading-good a (sym (tests (c .before .before .before .before .before)) ∙ not-false _ (c .before .before .before .before .if1 .left))))
 
 pub read-whole-spec : {M : Type 1} → statement M
 read-whole-spec =
     tie.close
     (tie.spec
-    sub-until-zero
-    part-until-zero-start
-    part-until-zero-end
-    until-zero-requires
+    sub-before
+    part-before-start
+    part-before-end
+    before-requires
     shared-slice-read-is-verdict
     is-verdict-requires
     shared-slice-read-good
