@@ -15,7 +15,7 @@ ghost use Rattle.verdicts.specs.Cells.{noCounts};
 ghost use Rattle.book.specs.MatrixRow.{rowChecked, looked, readOf, ran, rowFrom, rowed, rowOf};
 
 // The refusals of a row before any ask, in order.
-fn row_checked(desk: &[u8], tree: &[u8], first: u16, end: u16, draws: &[u16]) -> Outcome
+pub fn row_checked(desk: &[u8], tree: &[u8], first: u16, end: u16, draws: &[u16]) -> Outcome
     ensures { λ r. ⌜ r ≡ rowChecked (now (desk .entry)) (now (tree .entry)) first end (now (draws .entry)) ⌝ }
 {
     if !desk::good(desk) {

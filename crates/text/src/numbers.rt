@@ -19,7 +19,7 @@ pub const MOST_DIGITS: usize = 4;
 
 pub const MOST_NUMBER: u64 = 4096;
 
-fn is_digit(b: u8) -> bool
+pub fn is_digit(b: u8) -> bool
     ensures { λ r. ⌜ r ≡ isDigit b ⌝ }
 {
     (ZERO <= b) & (b <= NINE)

@@ -115,7 +115,7 @@ pub fn read(record: &[u8]) -> Reading
 }
 
 // Whether what is to be made can be read back.
-fn can_be_read(chapter: u8, name: &[u8]) -> bool
+pub fn can_be_read(chapter: u8, name: &[u8]) -> bool
     ensures { λ r. ⌜ r ≡ canBeRead chapter (now (name .entry)) ⌝ }
 {
     (chapter <= MOST_CHAPTER) & (name.len() <= MOST_NAME) & (bytes::before(name, 0) == name.len())
