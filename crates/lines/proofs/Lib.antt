@@ -1,0 +1,6 @@
+pub mod Spaces
+pub mod Digits
+pub mod Capitals
+pub mod Tails
+pub mod Cuts
+pub mod Arms
