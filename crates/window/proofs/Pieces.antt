@@ -62,7 +62,7 @@ enough (suc n) (suc m) (x ∷ xs) h k =
     let l = length-drop (suc (lineLen (x ∷ xs))) (x ∷ xs) in
     ap (λ (ls : List (List ℕ)). before lineFeed (x ∷ xs) ∷ ls) (enough n m (drop (suc (lineLen (x ∷ xs))) (x ∷ xs)) (omega arith) (omega arith))
 
-next : (xs : List ℕ) → 0 < length xs → linesOf xs ≡ before lineFeed xs ∷ linesOf (drop (suc (lineLen xs)) xs)
+pub next : (xs : List ℕ) → 0 < length xs → linesOf xs ≡ before lineFeed xs ∷ linesOf (drop (suc (lineLen xs)) xs)
 unfolding linesUpTo
 next [] h = absurd (omega arith)
 next (x ∷ xs) h =

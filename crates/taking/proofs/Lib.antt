@@ -1,0 +1,3 @@
+pub mod Numbered
+pub mod OneLine
+pub mod Turns
