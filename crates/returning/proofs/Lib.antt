@@ -1,0 +1,12 @@
+pub mod Free
+pub mod Rows
+pub mod Decimals
+pub mod Ends
+pub mod Tails
+pub mod Kept
+pub mod Heads
+pub mod Names
+pub mod Entries
+pub mod Turns
+pub mod Sheets
+pub mod Returns
