@@ -20,6 +20,7 @@ use Rattle.taking.specs.declared.Step.the-variants.{Go, Stop}
 use Rattle.taking.specs.declared.Text.the-variants.{Bad}
 use Rattle.taking.specs.Taking.{StepResult, stepped, takeLine, TextResult, took, atEnd, goingOn, takeLines, takeInto}
 
+-- the bytes before the first b are the front of the list
 before-is : (b : ℕ) (xs : List ℕ) → take (length (before b xs)) xs ≡ before b xs
 unfolding before
 before-is b [] = refl

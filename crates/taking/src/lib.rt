@@ -134,6 +134,7 @@ fn take_line(
     }
 }
 
+// A plan that is missing, or a version, is malformed one line past the end.
 fn at_end(before: usize, planned: bool) -> Text
     requires { ⌜ before + 1 < 18446744073709551616 ⌝ }
     ensures { λ r. ⌜ r ≡ atEnd before planned ⌝ }
@@ -167,6 +168,7 @@ pub fn take(sheet: &mut [u8], chapter: u8, year: u16, n: usize, text: &[u8]) -> 
             Step::Go(p) => planned = p,
         }
         before += 1;
+        // After a last line without a line feed this is one past the text's end.
         from = end + 1;
     }
     at_end(before, planned)
