@@ -1,4 +1,4 @@
--- A word in any case, and the byte after it. Assumes nothing.
+-- A word in any case: what its first bytes are in capitals. Assumes nothing.
 use Prim.Native.Nat.{ℕ, zero, suc, _≤_, _<_}
 use mathlib.Core.Path.{_≡_, refl, ap, _∙_}
 use mathlib.Core.List.{List, [], _∷_}

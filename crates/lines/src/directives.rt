@@ -4,7 +4,6 @@ use crate::Directive;
 use crate::fronts;
 use text::numbers;
 ghost use mathlib.Core.Path.{_≡_};
-ghost use mathlib.Core.Bool.{Bool};
 ghost use Prim.Native.Nat.{_≤_};
 ghost use lib.ListN.{length, take};
 ghost use Rattle.words.specs.Bytes.{same};

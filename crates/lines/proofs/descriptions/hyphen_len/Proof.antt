@@ -1,6 +1,5 @@
 -- `lines::descriptions::hyphen_len` meets its contract: the test decides, and the spaces are those of the rest. Assumes nothing.
 use mathlib.Core.Path.{sym, ap, _∙_}
-use Prim.Native.Nat.{_+_}
 use native.Mathlib.Omega.{arith}
 use borrow.Author.Tests.{not-true, not-false}
 use denote.Ref.{now}
@@ -41,7 +40,7 @@ returns-2 c =
     let s = now (c .before .before .before .before .before .args .s) in
     let e = sym (c .before .before .before .begins-with .ensures) ∙ not-false _ (c .before .before .if1 .left) in
     let h = first-there s hyphen (omega arith) e in
-    (rw e (ap (λ k. 1 + k) (c .spaces .ensures .0 ∙ ap leading (tail-is s 1 h))), omega (arith, c .spaces .ensures .1, tail-length s 1 h))
+    (rw e (omega (arith, c .spaces .ensures .0 ∙ ap leading (tail-is s 1 h))), omega (arith, c .spaces .ensures .1, tail-length s 1 h))
 
 pub hyphen-len-spec : {M : Type 1} → statement M
 hyphen-len-spec =
