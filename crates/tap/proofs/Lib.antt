@@ -1,0 +1,5 @@
+pub mod OneEntry
+pub mod PassTurns
+pub mod Ranges
+pub mod TextRead
+pub mod TextWritten
