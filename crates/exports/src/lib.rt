@@ -22,6 +22,7 @@ ghost use Rattle.tree.specs.Tree.{fetchOf, putOf};
 ghost use Rattle.exports.specs.Codes.{refusalCode, outcomeCode, askedCode, finishedCode, lengthBy, deskLength, Answered, Finishes};
 
 pub mod books;
+pub mod taps;
 
 // A refusal's number, negative.
 fn refused(r: Refusal) -> i32
