@@ -30,7 +30,8 @@ use Rattle.promises.specs.Trees.{TreeState, TreeReached}
 use Rattle.promises.specs.Rows.{tableCell, tableCounts, PassHeld, rowIn, LeavesTable, CountsTable, HonestRows}
 use Rattle.promises.proofs.BookRows.{not-counted, runOf, was-done, any-row}
 use Rattle.promises.proofs.TableRows.{pass-held, held-pass, all-passed, passed-all}
-use Rattle.promises.proofs.HonestReads.{Stands, ReadIs, read-is, row-low}
+use Rattle.promises.proofs.HonestRequests.{Stands}
+use Rattle.promises.proofs.HonestReads.{ReadIs, read-is, row-low}
 use Rattle.promises.proofs.RowsAnswer.{row-answers, row-roomy}
 use Rattle.promises.proofs.RowsExist.{first-row}
 

@@ -12,7 +12,10 @@ use Rattle.promises.proofs.Requests.{whole-requests}
 use Rattle.promises.proofs.Three.{demand-three, leaf-at, shown-once, shown-last-drawn}
 use Rattle.promises.proofs.BookRows.{any-row}
 use Rattle.promises.proofs.HonestRows.{honest-rows}
-use Rattle.promises.proofs.RowsShown.{three-with-rows}
+use Rattle.promises.proofs.AnyTaps.{any-tap}
+use Rattle.promises.proofs.HonestTaps.{honest-taps}
+use Rattle.promises.proofs.Carried.{carried}
+use Rattle.promises.proofs.DeedsShown.{three-with-deeds}
 use Rattle.promises.proofs.Exists.{exists}
 use Rattle.promises.proofs.Wrong.{refusing-out, denying-out, idle-out, inventing-out, zeroing-out, zeroing-three}
 use Rattle.promises.proofs.Echo.{echoing-out}
@@ -43,12 +46,15 @@ promises m o =
       requests = whole-requests;
       any-row = any-row;
       honest-rows = honest-rows;
+      any-tap = any-tap;
+      honest-taps = honest-taps;
+      carried = carried;
       three = demand-three m o m o;
       in-order = rearrange-order;
       shown-by-draws = λ n. leaf-at m o n;
       shown-once = shown-once m o;
       shown-last = shown-last-drawn m o;
-      three-with-rows = three-with-rows;
+      three-with-deeds = three-with-deeds;
       exists = exists m o;
       shut-out = shut-out m o;
       figures = figures m;

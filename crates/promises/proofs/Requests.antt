@@ -34,7 +34,7 @@ use Rattle.requests.specs.Request.{RequestResult, isRefused, putUnless, returne
 use Rattle.promises.specs.Stores.{Store, ours, Start, Request}
 use Rattle.promises.specs.Steps.{State, begin, afterAsk, afterFinish}
 use Rattle.promises.specs.Trees.{TreeState, Turn, asking, putIf, turn, turns, TreeReached, fetchedBy, TreeKept}
-use Rattle.promises.specs.Requests.{asRequest, twoTurns, requestFor, AsTurns, WholeRequests}
+use Rattle.promises.specs.Requests.{asRequest, twoTurns, requestFor, tableAs, AsTurns, WholeRequests}
 use Rattle.promises.proofs.Answers.{leaf-asked}
 use Rattle.promises.proofs.One.{demand-one}
 use Rattle.promises.proofs.TreeHolds.{fits-checked}
@@ -163,6 +163,12 @@ module _ (b : Start) (byte : b .room < 256) (ts : TreeState) (reached : TreeReac
   handed : (length path ≢ pathLen s → ⊥) → fetchedBy b one got
   handed n = (path, byCases (eqb (length path) (pathLen s)) (eqb-true (length path) (pathLen s)) (λ e. absurd (n (eqb-false (length path) (pathLen s) e))), refl)
 
+  table-after : (a : Finished) → afterFinish s (one .state) a f .table ≡ tableAs a kind id buffer (ts .state .table)
+  table-after finished.Record = refl
+  table-after finished.Never = refl
+  table-after finished.Done = refl
+  table-after (finished.Refused q) = refl
+
   pub as-turns : AsTurns b ts path buffer kind id leaf p (f .answer)
   as-turns =
       let two : twoTurns b ts path buffer kind id leaf ≡ turn (ours real) s one (Turn.serving path buffer) =
@@ -183,6 +189,7 @@ module _ (b : Start) (byte : b .room < 256) (ts : TreeState) (reached : TreeReac
             ∙ sym (ap (λ (x : TreeState). x .tree) two);
         reached =
             reached-turn (ours real) b (turn (ours real) s ts (asking req)) (reached-turn (ours real) b ts reached (asking req)) (Turn.serving path buffer);
+        table = ap (λ (x : TreeState). x .state .table) two ∙ table-after (f .answer);
       }
     where
       forged : length path ≢ pathLen s → f .answer ≡ finished.Refused Forged → ⊥

@@ -7,6 +7,8 @@ pub mod Trees
 pub mod Requests
 pub mod DemandThree
 pub mod Rows
+pub mod Taps
+pub mod Carried
 pub mod Deeds
 pub mod Exists
 pub mod Wrong

@@ -8,7 +8,9 @@ use Rattle.promises.specs.Trees.{DemandTwoTree}
 use Rattle.promises.specs.Requests.{WholeRequests}
 use Rattle.promises.specs.DemandThree.{DemandThree, InOrder, ShownByDraws, ShownOnce, ShownLast}
 use Rattle.promises.specs.Rows.{HonestRows, AnyRow}
-use Rattle.promises.specs.Deeds.{ThreeWithRows}
+use Rattle.promises.specs.Taps.{HonestTaps, AnyTap}
+use Rattle.promises.specs.Carried.{Carried}
+use Rattle.promises.specs.Deeds.{ThreeWithDeeds}
 use Rattle.promises.specs.Exists.{Exists}
 use Rattle.promises.specs.Wrong.{ShutOut}
 use Rattle.promises.specs.Figures.{Figures}
@@ -29,14 +31,20 @@ pub record Promises (m : Means) : Type 0 where
   -- a row of the verdict book: its counts add up; over an honest server it is the plain table's own row, and leaves the table
   pub any-row : AnyRow
   pub honest-rows : HonestRows
+  -- TAP in and out: a text that is refused changes nothing, and a refusal hands out none
+  pub any-tap : AnyTap
+  -- over an honest server a text that is read is what the table then holds, and a text that is written is what it says
+  pub honest-taps : HonestTaps
+  -- a text written from one store and read into another
+  pub carried : Carried
   -- 3: what is shown does not depend on what is asked for; no draw is shown twice; the leaf shown is the last one drawn for the id
   pub three : DemandThree (ours m) (ours m)
   pub in-order : InOrder
   pub shown-by-draws : ShownByDraws (ours m)
   pub shown-once : ShownOnce (ours m)
   pub shown-last : ShownLast (ours m)
-  -- the same of runs with rows of the verdict book among the requests
-  pub three-with-rows : ThreeWithRows
+  -- the same of runs with rows of the verdict book and texts of TAP among the requests
+  pub three-with-deeds : ThreeWithDeeds
   -- there are runs, and wrong stores are shut out
   pub exists : Exists (ours m)
   pub shut-out : ShutOut m

@@ -12,7 +12,7 @@ use Rattle.store.specs.declared.Finished.{Finished}
 use Rattle.store.specs.declared.Finished.the-variants as finished
 use Rattle.requests.specs.declared.Answered.the-variants as answered
 use Rattle.requests.specs.Request.{RequestResult, requestOf}
-use Rattle.keeping.specs.Table.{plainAnswer, plainBuffer}
+use Rattle.keeping.specs.Table.{Table, plainAnswer, plainBuffer, plainTable}
 use Rattle.promises.specs.Stores.{ours, Start, Request, Accepted}
 use Rattle.promises.specs.Trees.{TreeState, asking, serving, turn, TreeReached}
 
@@ -28,6 +28,13 @@ abbrev pub twoTurns : Start → TreeState → List ℕ → List ℕ → Kind →
 twoTurns b ts path buffer kind id leaf =
     turn (ours real) (b .sizes) (turn (ours real) (b .sizes) ts (asking (asRequest kind id leaf buffer))) (serving path buffer)
 
+-- the plain table after a request whose finish answered so: a refused one leaves it
+abbrev pub tableAs : Finished → Kind → ℕ → List ℕ → Table → Table
+tableAs finished.Record kind id content table = plainTable kind id content table
+tableAs finished.Never kind id content table = plainTable kind id content table
+tableAs finished.Done kind id content table = plainTable kind id content table
+tableAs (finished.Refused q) kind id content table = table
+
 -- what it comes to, where it asked for leaf p and its finish answered f
 pub record AsTurns (b : Start) (ts : TreeState) (path buffer : List ℕ) (kind : Kind) (id leaf p : ℕ) (f : Finished) : Type 0 where
   -- the leaf is the one last drawn for the id
@@ -41,6 +48,8 @@ pub record AsTurns (b : Start) (ts : TreeState) (path buffer : List ℕ) (kind :
   pub desk : requestFor ts path buffer kind id leaf .desk ≡ twoTurns b ts path buffer kind id leaf .state .desk
   pub tree : requestFor ts path buffer kind id leaf .tree ≡ twoTurns b ts path buffer kind id leaf .tree
   pub reached : TreeReached (ours real) b (twoTurns b ts path buffer kind id leaf)
+  -- and so is the table
+  pub table : twoTurns b ts path buffer kind id leaf .state .table ≡ tableAs f kind id buffer (ts .state .table)
 
 pub record WholeRequests : Type 0 where
   -- a refusal before anything was asked for changes nothing
