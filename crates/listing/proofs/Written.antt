@@ -6,13 +6,11 @@ use native.Mathlib.Nat.{pow-suc}
 use native.Mathlib.Numerals.{add-one}
 use native.Mathlib.Omega.{arith}
 use borrow.Author.Tests.{lt-ltb, le-ltb}
-use lib.ListN.{length, take, drop, set, length-append, length-set}
+use lib.ListN.{length, drop, set, length-append, length-set}
 use lib.Seq.{drop-set-lt, drop-cons, getD-set-same}
 use Rattle.words.specs.Bytes.{part, zeros}
 use Rattle.words.proofs.Splice.{splice-next, part-tail}
-use Rattle.words.proofs.Tests.{byCases}
-use lib.Dec.{eqb}
-use Rattle.text.specs.Fronts.{zeroDigit, before}
+use Rattle.text.specs.Fronts.{zeroDigit}
 use Rattle.listing.specs.Listing.{digitsUpTo, decimal, mostDecimal, Wrote}
 
 -- ---- one thing after another
@@ -73,11 +71,3 @@ digits-last x text i y d h =
     let l = length-set text i (zeroDigit + y) in
     part-tail (set text i (zeroDigit + y)) i (mostDecimal - i) (omega (arith, d .long, d .place))
     ∙ laid text i (zeroDigit + y) (omega (arith, d .long)) ∙ sym (d .are ∙ rw (one i y h))
-
--- ---- the bytes before the first b are the front of the list
-
-pub before-is : (b : ℕ) (xs : List ℕ) → take (length (before b xs)) xs ≡ before b xs
-unfolding before
-before-is b [] = refl
-before-is b (x ∷ xs) =
-    byCases (eqb x b) (λ e. rw e) (λ e. rw e (ap (λ (l : List ℕ). x ∷ l) (before-is b xs)))

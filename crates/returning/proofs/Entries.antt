@@ -20,6 +20,7 @@ use Rattle.verdicts.specs.declared.Reading.{Reading}
 use Rattle.verdicts.specs.declared.Reading.the-variants.{Good, Bad}
 use Rattle.verdicts.specs.Verdict.{readingOf, nameIn, recordOf}
 use Rattle.verdicts.proofs.Written.{length-record}
+use Rattle.verdicts.proofs.Readable.{Readable, can-read, read-readable}
 use Rattle.lines.specs.declared.Test.{Test}
 use Rattle.lines.specs.declared.Line.the-variants as line
 use Rattle.lines.specs.Words.{dashText}
@@ -32,7 +33,7 @@ use Rattle.returning.proofs.Decimals.{decimal-digits, digits-free}
 use Rattle.returning.proofs.Tails.{tailOf, nameRead, read-short, read-free, read-pass}
 use Rattle.returning.proofs.Kept.{plain-reads}
 use Rattle.returning.proofs.Heads.{lineFor, IsTest, test-read}
-use Rattle.returning.proofs.Names.{good-bad, zeros-bad, Named, named, can-read, verdict-made}
+use Rattle.returning.proofs.Names.{good-bad, zeros-bad, verdict-made}
 
 -- what comes of an entry
 pub record Comes (chapter year : ℕ) (rec out : List ℕ) : Type 0 where
@@ -121,10 +122,10 @@ module _ (chapter year k : ℕ) (rec : List ℕ) (low : k < 65536) (e : Entry) (
       (free-append lineFeed dashText _ dash-free
       (free-append lineFeed name (directiveText v) (eqb-true _ _ printable) (directive-free v))))
 
-  name-read : Named chapter (nameRead (tailOf v name))
+  name-read : Readable chapter (nameRead (tailOf v name))
   name-read =
-      let n = named rec e reads in
-      record { chapter-low = rw (← of) (n .chapter-low); short = omega (arith, read-short v name, n .short); free = read-free v name (n .free) }
+      let n = read-readable rec e reads in
+      record { chapter-high = rw (← of) (n .chapter-high); name-short = omega (arith, read-short v name, n .name-short); no-zero = read-free v name (n .no-zero) }
 
   test : IsTest chapter k v name
   test = test-read chapter k v name low (can-read chapter (nameRead (tailOf v name)) name-read)
@@ -161,7 +162,7 @@ module _ (chapter year k : ℕ) (rec : List ℕ) (low : k < 65536) (e : Entry) (
         free = free;
         reads = test .reads;
         number-is = test .number-is;
-        long = length-record (test .says .verdict) chapter year (descriptionIn row (test .says)) (omega (arith, ap length (test .name-is), name-read .short));
+        long = length-record (test .says .verdict) chapter year (descriptionIn row (test .says)) (omega (arith, ap length (test .name-is), name-read .name-short));
         comes = comes;
       }
 

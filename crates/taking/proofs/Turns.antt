@@ -2,16 +2,15 @@
 use Prim.Native.Nat.{ℕ, suc, _+_, _-_, _≤_, _<_}
 use mathlib.Core.Path.{_≡_, refl, sym, ap, ap₂, _∙_}
 use mathlib.Core.Bool.{Bool, false}
-use mathlib.Core.List.{List, [], _∷_}
+use mathlib.Core.List.{List}
 use native.Mathlib.Omega.{arith}
-use lib.ListN.{length, take, drop, length-drop, drop-of-length-le}
-use lib.Dec.{eqb}
+use lib.ListN.{length, drop, length-drop, drop-of-length-le}
 use lib.Seq.{drop-drop}
 use Rattle.words.specs.Bytes.{part}
 use Rattle.words.proofs.Splice.{part-tail}
-use Rattle.words.proofs.Tests.{byCases}
 use Rattle.text.specs.Text.{lineFeed}
 use Rattle.text.specs.Fronts.{before}
+use Rattle.text.proofs.Fronts.{before-is}
 use Rattle.window.specs.Pieces.{lineLen, linesOf}
 use Rattle.window.proofs.Pieces.{next, none-handed}
 use Rattle.taking.specs.declared.Trouble.{Trouble}
@@ -19,12 +18,6 @@ use Rattle.taking.specs.declared.Step.{Step}
 use Rattle.taking.specs.declared.Step.the-variants.{Go, Stop}
 use Rattle.taking.specs.declared.Text.the-variants.{Bad}
 use Rattle.taking.specs.Taking.{StepResult, stepped, takeLine, TextResult, took, atEnd, goingOn, takeLines, takeInto}
-
--- the bytes before the first b are the front of the list
-before-is : (b : ℕ) (xs : List ℕ) → take (length (before b xs)) xs ≡ before b xs
-unfolding before
-before-is b [] = refl
-before-is b (x ∷ xs) = byCases (eqb x b) (λ e. rw e) (λ e. rw e (ap (λ (l : List ℕ). x ∷ l) (before-is b xs)))
 
 -- lines up to, not including, what stands at `from` are taken; `from` is one past the text after a last line without a line feed
 pub record SoFar (chapter year n : ℕ) (text : List ℕ) (whole : TextResult) (from count : ℕ) (planned : Bool) (sheet : List ℕ) : Type 0 where

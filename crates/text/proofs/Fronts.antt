@@ -32,6 +32,12 @@ pub before-end : (b : ℕ) → length (before b []) ≡ 0
 unfolding before
 before-end b = refl
 
+-- they are the front of the list
+pub before-is : (b : ℕ) (xs : List ℕ) → take (length (before b xs)) xs ≡ before b xs
+unfolding before
+before-is b [] = refl
+before-is b (x ∷ xs) = byCases (eqb x b) (λ e. rw e) (λ e. rw e (ap (λ (l : List ℕ). x ∷ l) (before-is b xs)))
+
 -- ---- the digits at the front
 
 module _ (xs : List ℕ) (i : ℕ) (h : i < length xs) where

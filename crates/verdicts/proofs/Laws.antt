@@ -1,17 +1,17 @@
 -- A verdict made, then read, is the same; and a record that reads as a verdict is the one that making gives. Assumes nothing.
-use Prim.Native.Nat.{ℕ, _-_, _≤_, _<_}
+use Prim.Native.Nat.{ℕ, _-_, _<_}
 use mathlib.Core.Path.{_≡_, refl, sym, ap, ap₂, subst, _∙_}
-use mathlib.Core.Bool.{Bool, true, false, cond}
+use mathlib.Core.Bool.{true}
 use mathlib.Core.List.{List, [], _∷_, _++_}
 use native.Mathlib.Omega.{arith}
-use lib.ListN.{length, getD, take, drop, length-append, take-append-drop}
+use lib.ListN.{length, getD, drop, length-append, take-append-drop}
 use lib.Dec.{leb, eqb}
-use borrow.Author.Tests.{eq-eqb, eqb-true, eqb-false, leb-true, le-leb}
+use borrow.Author.Tests.{eq-eqb, eqb-true, eqb-false, leb-true}
 use Rattle.words.specs.Bytes.{part, zeros}
 use Rattle.words.specs.Numbers.{number, bytesOf}
-use Rattle.words.specs.Tests.{allZero, every, Each}
-use Rattle.words.proofs.Tests.{byCases, and-left, and-right, each, every-of, zeros-zero}
-use Rattle.words.proofs.Splice.{length-part, part-left, part-right, part-whole, part-tail, part-part, part-add, part-cons, length-zeros}
+use Rattle.words.specs.Tests.{allZero}
+use Rattle.words.proofs.Tests.{byCases, each, zeros-zero}
+use Rattle.words.proofs.Splice.{length-part, part-left, part-right, part-whole, part-tail, part-add, part-cons, length-zeros}
 use Rattle.words.proofs.Numbers.{number-bytesOf}
 use Rattle.sizes.specs.Sizes.{recordLen}
 use Rattle.slots.specs.Slots.{Bytes}
@@ -20,11 +20,11 @@ use Rattle.desk.proofs.Request.{zero-zeros}
 use Rattle.verdicts.specs.declared.Verdict.{Verdict}
 use Rattle.verdicts.specs.declared.Verdict.the-variants.{Pass, Fail, Skipped, Error}
 use Rattle.verdicts.specs.declared.Entry.{Entry}
-use Rattle.verdicts.specs.declared.Reading.{Reading}
-use Rattle.verdicts.specs.declared.Reading.the-variants.{Good, Bad}
-use Rattle.verdicts.specs.Verdict.{nameAt, yearAt, yearLen, mostName, mostChapter, verdictNumber, isVerdict, verdictOf, untilZero, isPadded, nameField, nameLength, goodRecord, entryIn, readingOf, nameIn, canBeRead, headOf, recordOf, entry, ReadsBack, MadeAgain, VerdictLaws}
-use Rattle.verdicts.proofs.Name.{until-le, until-append, until-take}
+use Rattle.verdicts.specs.declared.Reading.the-variants.{Good}
+use Rattle.verdicts.specs.Verdict.{nameAt, yearAt, yearLen, mostName, verdictNumber, isVerdict, verdictOf, untilZero, isPadded, nameField, nameLength, goodRecord, entryIn, readingOf, nameIn, headOf, recordOf, entry, ReadsBack, MadeAgain, VerdictLaws}
+use Rattle.verdicts.proofs.Name.{until-append}
 use Rattle.verdicts.proofs.GoodRecord.{reading-good}
+use Rattle.verdicts.proofs.Readable.{Readable, readable, can-read, whole, tested, field-long, name-low, front, name-long, entry-read, read-readable}
 use Rattle.verdicts.proofs.Written.{length-head, length-record}
 
 -- ---- numbers of verdicts
@@ -35,7 +35,7 @@ is-verdict Fail = refl
 is-verdict Skipped = refl
 is-verdict Error = refl
 
-verdict-back : (v : Verdict) → verdictOf (verdictNumber v) ≡ v
+pub verdict-back : (v : Verdict) → verdictOf (verdictNumber v) ≡ v
 verdict-back Pass = refl
 verdict-back Fail = refl
 verdict-back Skipped = refl
@@ -50,19 +50,6 @@ number-back x h =
   where
     four : (x : ℕ) → leb 1 x ≡ true → leb x 4 ≡ true → (x ≡ 1 → ⊥) → (x ≡ 2 → ⊥) → (x ≡ 3 → ⊥) → 4 ≡ x
     four x a b n1 n2 n3 = omega (arith, leb-true 1 x a, leb-true x 4 b)
-
--- ---- what can be read back
-
-pub record Readable (chapter : ℕ) (name : List ℕ) : Type 0 where
-  pub chapter-high : leb chapter mostChapter ≡ true
-  pub name-short : length name ≤ mostName
-  pub no-zero : untilZero name ≡ length name
-
-readable : (chapter : ℕ) (name : List ℕ) → canBeRead chapter name ≡ true → Readable chapter name
-unfolding canBeRead
-readable chapter name h =
-    let e = each (leb chapter mostChapter ∷ leb (length name) mostName ∷ eqb (untilZero name) (length name) ∷ []) h in
-    record { chapter-high = e .0; name-short = leb-true _ _ (e .1 .0); no-zero = eqb-true _ _ (e .1 .1 .0) }
 
 -- ---- made, then read
 
@@ -141,73 +128,37 @@ module _ (rec : List ℕ) (bytes : Bytes rec) (good : goodRecord rec ≡ true) w
   abbrev n : ℕ
   n = nameLength rec
 
-  abbrev tests : List Bool
-  tests = isVerdict (getD rec 0 0) ∷ leb (getD rec 1 0) mostChapter ∷ isPadded field n ∷ []
-
-  whole : length rec ≡ recordLen
-  unfolding goodRecord
-  whole = eqb-true _ _ (and-left (eqb (length rec) recordLen) (every tests) good)
-
-  tested : Each tests
-  unfolding goodRecord
-  tested = each tests (and-right (eqb (length rec) recordLen) (every tests) good)
-
-  field-long : length field ≡ mostName
-  field-long = length-part rec nameAt mostName (omega (arith, whole))
-
-  name-low : n ≤ mostName
-  unfolding nameLength
-  name-low = omega (arith, until-le field, field-long)
-
-  -- the name, as the front of its field; and the rest of the field, which is zeros
-  front : take n field ≡ part rec nameAt n
-  front = part-part rec nameAt mostName 0 n (omega (arith, name-low))
-
+  -- the rest of the name's field is zeros
   pad-is : drop n field ≡ zeros (mostName - n)
   pad-is =
-      sym (part-tail field n (length field - n) (omega arith)) ∙ zero-zeros (part field n (length field - n)) (tested .1 .1 .0)
-      ∙ ap zeros (length-part field n (length field - n) (omega (arith, name-low, field-long)) ∙ ap (λ (k : ℕ). k - n) field-long)
+      sym (part-tail field n (length field - n) (omega arith)) ∙ zero-zeros (part field n (length field - n)) (tested rec good .1 .1 .0)
+      ∙ ap zeros (length-part field n (length field - n) (omega (arith, name-low rec good, field-long rec good)) ∙ ap (λ (k : ℕ). k - n) (field-long rec good))
 
   field-made : part rec nameAt n ++ zeros (mostName - n) ≡ field
-  field-made = ap₂ (λ (a b : List ℕ). a ++ b) (sym front) (sym pad-is) ∙ take-append-drop n field
+  field-made = ap₂ (λ (a b : List ℕ). a ++ b) (sym (front rec good)) (sym pad-is) ∙ take-append-drop n field
 
   head-made : headOf (verdictOf (getD rec 0 0)) (getD rec 1 0) (number yearLen rec yearAt) ≡ part rec 0 nameAt
   head-made =
-      ap₂ (λ (x : ℕ) (ys : List ℕ). x ∷ getD rec 1 0 ∷ ys) (number-back (getD rec 0 0) (tested .0)) (bytesOf-number yearLen rec yearAt bytes (omega (arith, whole)))
-      ∙ sym (part-cons rec 0 3 (omega (arith, whole)) ∙ ap (λ (ys : List ℕ). getD rec 0 0 ∷ ys) (part-cons rec 1 2 (omega (arith, whole))))
-
-  name-long : length (part rec nameAt n) ≡ n
-  name-long = length-part rec nameAt n (omega (arith, whole, name-low))
-
-  name-whole : untilZero (part rec nameAt n) ≡ length (part rec nameAt n)
-  unfolding nameLength
-  name-whole = ap untilZero (sym front) ∙ until-take field ∙ sym name-long
-
-  can-again : canBeRead (getD rec 1 0) (part rec nameAt n) ≡ true
-  unfolding canBeRead
-  can-again =
-      every-of (leb (getD rec 1 0) mostChapter ∷ leb (length (part rec nameAt n)) mostName ∷ eqb (untilZero (part rec nameAt n)) (length (part rec nameAt n)) ∷ [])
-      (tested .1 .0, (le-leb (length (part rec nameAt n)) mostName (omega (arith, name-long, name-low)), (eq-eqb _ _ name-whole, tt)))
+      ap₂ (λ (x : ℕ) (ys : List ℕ). x ∷ getD rec 1 0 ∷ ys) (number-back (getD rec 0 0) (tested rec good .0)) (bytesOf-number yearLen rec yearAt bytes (omega (arith, whole rec good)))
+      ∙ sym (part-cons rec 0 3 (omega (arith, whole rec good)) ∙ ap (λ (ys : List ℕ). getD rec 0 0 ∷ ys) (part-cons rec 1 2 (omega (arith, whole rec good))))
 
   made : recordOf (verdictOf (getD rec 0 0)) (getD rec 1 0) (number yearLen rec yearAt) (part rec nameAt n) ≡ rec
   unfolding recordOf
   made =
-      ap (λ (k : ℕ). headOf (verdictOf (getD rec 0 0)) (getD rec 1 0) (number yearLen rec yearAt) ++ (part rec nameAt n ++ zeros (mostName - k))) name-long
-      ∙ ap₂ (λ (a b : List ℕ). a ++ b) head-made field-made ∙ sym (part-add rec 0 nameAt mostName) ∙ part-whole rec recordLen (omega (arith, whole))
+      ap (λ (k : ℕ). headOf (verdictOf (getD rec 0 0)) (getD rec 1 0) (number yearLen rec yearAt) ++ (part rec nameAt n ++ zeros (mostName - k))) (name-long rec good)
+      ∙ ap₂ (λ (a b : List ℕ). a ++ b) head-made field-made ∙ sym (part-add rec 0 nameAt mostName) ∙ part-whole rec recordLen (omega (arith, whole rec good))
 
-  again : MadeAgain rec (entryIn rec)
+  made-entry : recordOf (entryIn rec .verdict) (entryIn rec .chapter) (entryIn rec .year) (nameIn rec (entryIn rec)) ≡ rec
   unfolding entryIn
-  again = record { can = can-again; makes = made }
-
--- a reading that is good is that of a good record
-good-case : (k : Bool) (x e : Entry) → cond k (Good x) Bad ≡ Good e → (k ≡ true) × (x ≡ e)
-good-case true x e h = (refl, cc)
-good-case false x e h = let z : _≡_ {A = ℕ} 0 1 = cc in absurd (omega arith)
+  made-entry = made
 
 made-again : (rec : List ℕ) (e : Entry) → Bytes rec → readingOf rec ≡ Good e → MadeAgain rec e
 made-again rec e bytes h =
-    let k = good-case (goodRecord rec) (entryIn rec) e h in
-    subst (λ (x : Entry). MadeAgain rec x) (k .1) (again rec bytes (k .0))
+    let k = entry-read rec e h in
+    record {
+      can = can-read (e .chapter) (nameIn rec e) (read-readable rec e h);
+      makes = subst (λ (x : Entry). recordOf (x .verdict) (x .chapter) (x .year) (nameIn rec x) ≡ rec) (k .1) (made-entry rec bytes (k .0));
+    }
 
 pub verdict-laws : VerdictLaws
 verdict-laws = record { made-read = λ v chapter year name y h. reads-back v chapter year name y (readable chapter name h); read-made = made-again }

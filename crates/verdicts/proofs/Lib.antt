@@ -1,5 +1,6 @@
 pub mod Name
 pub mod GoodRecord
+pub mod Readable
 pub mod Written
 pub mod Laws
 pub mod Cell

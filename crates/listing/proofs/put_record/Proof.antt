@@ -7,7 +7,8 @@ use lib.ListN.{take}
 use lib.Seq.{length-take-le}
 use Rattle.text.specs.Text.{recordWord}
 use Rattle.text.specs.Fronts.{before}
-use Rattle.listing.proofs.Written.{andThen, before-is}
+use Rattle.text.proofs.Fronts.{before-is}
+use Rattle.listing.proofs.Written.{andThen}
 use borrow.Author.Needs.{needs}
 use Rattle.listing.proofs.put_record.Statement.{statement}
 use Rattle.listing.proofs.put_record.Tie as tie
