@@ -2,14 +2,12 @@
 use Prim.Native.Nat.{ℕ, _-_}
 use mathlib.Core.Path.{_≡_, refl, sym, ap, subst, _∙_}
 use mathlib.Core.Logic.{_≢_}
-use mathlib.Core.Bool.{Bool, not}
-use mathlib.Core.List.{List, [], _∷_, _++_}
+use mathlib.Core.List.{List}
 use native.Mathlib.Omega.{arith}
 use lib.ListN.{length}
-use lib.Dec.{eqb}
+use borrow.Author.Tests.{eq-eqb}
 use Rattle.words.specs.Bytes.{splice}
 use Rattle.sizes.specs.declared.Refusal.{Refusal}
-use Rattle.sizes.specs.declared.Refusal.the-variants.{BadLength}
 use Rattle.sizes.specs.declared.Outcome.{Outcome}
 use Rattle.sizes.specs.declared.Outcome.the-variants as outcome
 use Rattle.sizes.specs.Refusals.{NoneOf}
@@ -25,7 +23,7 @@ use Rattle.printing.specs.Printing.{textOf}
 use Rattle.tap.specs.declared.Taken.the-variants as taken
 use Rattle.tap.specs.declared.Printed.the-variants as printed
 use Rattle.tap.specs.Passing.{SheetResult, passOf}
-use Rattle.tap.specs.Tap.{ReadResult, takenBy, readText, readBy, readOf, WriteResult, writeChecked, printedBy, writeBy, writeOf}
+use Rattle.tap.specs.Tap.{ReadResult, takenBy, readText, readBy, readOf, WriteResult, writeRows, writeChecked, printedBy, writeBy, writeOf}
 use Rattle.promises.specs.Taps.{AnyTap}
 
 module _ (desk tree : List ℕ) (chapter year first end : ℕ) (draws text : List ℕ) where
@@ -33,7 +31,7 @@ module _ (desk tree : List ℕ) (chapter year first end : ℕ) (draws text : Lis
   sheet = takeOf chapter year (end - first) text .sheet
 
   -- once the checks are passed the text decides
-  text-decides : rowChecked desk tree first end draws ≡ outcome.Done
+  pub text-decides : rowChecked desk tree first end draws ≡ outcome.Done
       → readOf desk tree chapter year first end draws text ≡ readText (takeOf chapter year (end - first) text .answer) desk tree first draws sheet
   text-decides e = ap (λ (o : Outcome). readBy o desk tree chapter year first end draws text) e
 
@@ -46,6 +44,10 @@ module _ (desk tree : List ℕ) (chapter year first end : ℕ) (draws text : Lis
 pub taken-done : (o : Outcome) → takenBy o ≡ taken.Done → o ≡ outcome.Done
 taken-done outcome.Done h = refl
 taken-done (outcome.Refused q) h = let z : _≡_ {A = ℕ} 0 1 = cc in absurd (omega arith)
+
+pub taken-same : (o : Outcome) (q : Refusal) → takenBy o ≡ taken.Refused q → o ≡ outcome.Refused q
+taken-same outcome.Done q h = let z : _≡_ {A = ℕ} 0 1 = cc in absurd (omega arith)
+taken-same (outcome.Refused p) q h = let k : p ≡ q = cc in ap outcome.Refused k
 
 not-bad : (o : Outcome) (t : Trouble) (line : ℕ) → takenBy o ≢ taken.Bad t line
 not-bad outcome.Done t line h = let z : _≡_ {A = ℕ} 0 1 = cc in omega arith
@@ -85,9 +87,6 @@ module _ (desk tree : List ℕ) (chapter year first end : ℕ) (draws text : Lis
 not-printed : (q : Refusal) (len : ℕ) → printed.Length len ≡ printed.Refused q → ⊥
 not-printed q len h = let z : _≡_ {A = ℕ} 0 1 = cc in omega arith
 
-abbrev pub writeRows : List ℕ → List ℕ → ℕ → ℕ → List ℕ → List ℕ → List (Bool × Refusal)
-writeRows desk tree first end draws out = rowRows desk tree first end draws ++ ((not (eqb (length out) (roomOf (end - first))), BadLength) ∷ [])
-
 pub row-checked : (desk tree : List ℕ) (first end : ℕ) (draws out : List ℕ) → writeChecked desk tree first end draws out ≡ outcome.Done
     → rowChecked desk tree first end draws ≡ outcome.Done
 unfolding writeChecked rowChecked
@@ -95,10 +94,21 @@ row-checked desk tree first end draws out h =
     let n : NoneOf (writeRows desk tree first end draws out) = none-applies (writeRows desk tree first end draws out) h in
     rw (n .0, n .1 .0, n .1 .1 .0) refl
 
+pub write-checked : (desk tree : List ℕ) (first end : ℕ) (draws out : List ℕ) → rowChecked desk tree first end draws ≡ outcome.Done
+    → length out ≡ roomOf (end - first) → writeChecked desk tree first end draws out ≡ outcome.Done
+unfolding writeChecked rowChecked
+write-checked desk tree first end draws out h l =
+    let n : NoneOf (rowRows desk tree first end draws) = none-applies (rowRows desk tree first end draws) h in
+    rw (n .0, n .1 .0, n .1 .1 .0, eq-eqb (length out) (roomOf (end - first)) l) refl
+
 module _ (chapter n : ℕ) (r : SheetResult) (out : List ℕ) where
   kept-by : (q : Refusal) (o : Outcome) → printedBy o chapter n r out .answer ≡ printed.Refused q → printedBy o chapter n r out .out ≡ out
   kept-by q (outcome.Refused p) h = refl
   kept-by q outcome.Done h = absurd (not-printed q _ h)
+
+  pub printed-same : (q : Refusal) (o : Outcome) → printedBy o chapter n r out .answer ≡ printed.Refused q → o ≡ outcome.Refused q
+  printed-same q outcome.Done h = absurd (not-printed q _ h)
+  printed-same q (outcome.Refused p) h = let k : p ≡ q = cc in ap outcome.Refused k
 
   -- what a text that is written is
   pub record Says (len : ℕ) (now : List ℕ) : Type 0 where

@@ -3,21 +3,21 @@
 use Prim.Native.Nat.{ℕ, suc, _+_, _*_, _<_, _≤_}
 use mathlib.Core.Path.{_≡_, refl, sym, ap, subst, _∙_}
 use mathlib.Core.Logic.{_≢_}
-use mathlib.Core.Option.{Option, none, some}
+use mathlib.Core.Option.{Option, some}
 use mathlib.Core.List.{List, [], _∷_}
 use native.Mathlib.Omega.{arith}
 use lib.ListN.{length}
-use Rattle.words.specs.Bytes.{splice}
+use Rattle.words.specs.Bytes.{splice, zeros}
 use Rattle.words.proofs.Tests.{below-or}
 use Rattle.words.proofs.Splice.{length-part}
 use Rattle.sizes.specs.declared.Refusal.{Refusal}
 use Rattle.sizes.specs.declared.Refusal.the-variants.{Forged}
 use Rattle.sizes.specs.declared.Outcome.{Outcome}
 use Rattle.sizes.specs.declared.Outcome.the-variants as outcome
-use Rattle.sizes.specs.Sizes.{recordLen}
+use Rattle.sizes.specs.Sizes.{recordLen, pathLen}
 use Rattle.sizes.proofs.Rows.{not-refused}
-use Rattle.desk.specs.declared.Kind.{Kind}
-use Rattle.desk.specs.declared.Kind.the-variants.{Read, Write}
+use Rattle.desk.specs.Readers.{sizesOf}
+use Rattle.items.specs.Real.{real}
 use Rattle.store.specs.declared.Finished.the-variants as finished
 use Rattle.requests.specs.declared.Answered.{Answered}
 use Rattle.requests.specs.declared.Answered.the-variants as answered
@@ -26,11 +26,12 @@ use Rattle.keeping.specs.Table.{Table, plainBuffer, plainTable}
 use Rattle.sheets.specs.Sheet.{entryStart, entryAt}
 use Rattle.returning.proofs.Sheets.{fill-long, fill-same, fill-below, fill-above}
 use Rattle.tap.specs.Passing.{kindOf, EntryResult, requestedEntry, entryBy, requestEntry, PassResult, passed, goingOn, passFrom}
-use Rattle.promises.specs.Stores.{Start}
+use Rattle.promises.specs.Stores.{ours, Start}
+use Rattle.promises.specs.Trees.{TreeState, TreeReached}
 use Rattle.promises.specs.Taps.{tableAfter}
 use Rattle.promises.proofs.Answers.{accept-record, accept-never, accept-done}
-use Rattle.promises.proofs.HonestRequests.{Stands, stands-as, RequestIs, request-is}
-use Rattle.promises.proofs.TableSheets.{after-above, after-one}
+use Rattle.promises.proofs.HonestRequests.{Stands, stands-as, here, held-long, buffer-long, RequestIs, request-is}
+use Rattle.promises.proofs.TableSheets.{after-none, after-above, after-one}
 
 -- ---- one entry: a request of its kind
 
@@ -74,12 +75,6 @@ unfolding requestEntry
 entry-is b byte table desk tree path entry id x s =
     let r = requestOf desk tree path entry (kindOf entry) id x in
     entry-by b table id entry (r .desk) (r .tree) (r .path) (r .buffer) (r .answer) (request-is b byte table (kindOf entry) id x path entry desk tree s)
-
-buffer-long : (kind : Kind) (held : Option (List ℕ)) (buffer : List ℕ) → length buffer ≡ recordLen → ((rec : List ℕ) → held ≡ some rec → length rec ≡ recordLen)
-    → length (plainBuffer kind held buffer) ≡ recordLen
-buffer-long Read none buffer l h = l
-buffer-long Read (some rec) buffer l h = h rec refl
-buffer-long Write held buffer l h = l
 
 -- ---- a whole sheet, of n entries for the ids from `first` on
 
@@ -174,3 +169,16 @@ module _ (b : Start) (byte : b .room < 256) (table : Table) (sized : (u : ℕ) (
       (λ h.
       pass-is (suc i) xs (r .desk) (r .tree) (r .path) laid-in (omega arith) (on-stands i (omega arith) sheet w r k h) (on-sheet i (omega arith) sheet w r k h))
       (r .answer) refl
+
+-- ---- from a state that is reached, with a draw for each entry
+
+module _ (b : Start) (byte : b .room < 256) (ts : TreeState) (reached : TreeReached (ours real) b ts) (first n : ℕ) (whole draws : List ℕ)
+    (long : length whole ≡ n * recordLen) (all : length draws ≡ n) where
+  pub passes : PassIs b byte (ts .state .table) (held-long b byte ts reached) first n whole long
+      (passFrom first 0 draws (ts .state .desk) (ts .tree) (zeros (pathLen (sizesOf (ts .state .desk)))) whole)
+  passes =
+      pass-is b byte (ts .state .table) (held-long b byte ts reached) first n whole long 0 draws (ts .state .desk) (ts .tree)
+      (zeros (pathLen (sizesOf (ts .state .desk)))) whole (omega arith)
+      (stands-as b (ts .state .table) (tableAfter first 0 whole (ts .state .table)) (ts .state .desk) (ts .tree)
+      (λ u. sym (after-none first whole (ts .state .table) u)) (here b ts reached))
+      (record { sheet-long = long; before = λ j l. absurd (omega arith); rest = λ j g l. refl })

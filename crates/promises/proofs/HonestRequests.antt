@@ -4,7 +4,7 @@ use Prim.Native.Nat.{ℕ, _<_}
 use mathlib.Core.Path.{_≡_, refl, sym, ap, subst, subst₂, _∙_}
 use mathlib.Core.Logic.{_≢_}
 use mathlib.Core.Bool.{cond}
-use mathlib.Core.Option.{Option, some}
+use mathlib.Core.Option.{Option, none, some}
 use mathlib.Core.List.{List}
 use native.Mathlib.Omega.{arith}
 use lib.ListN.{length}
@@ -15,6 +15,7 @@ use Rattle.sizes.specs.declared.Outcome.the-variants as outcome
 use Rattle.sizes.specs.Sizes.{recordLen}
 use Rattle.sizes.specs.Refusals.{numberOf}
 use Rattle.desk.specs.declared.Kind.{Kind}
+use Rattle.desk.specs.declared.Kind.the-variants.{Read, Write}
 use Rattle.desk.specs.Readers.{positionOf}
 use Rattle.items.specs.Real.{real}
 use Rattle.items.proofs.Sound.{real-sound}
@@ -48,10 +49,20 @@ pub stands-as : (b : Start) (table table′ : Table) (desk tree : List ℕ) → 
 stands-as b table table′ desk tree e s =
     record { at = s .at; reached = s .reached; desk-is = s .desk-is; tree-is = s .tree-is; table-is = λ u. s .table-is u ∙ e u }
 
+pub here : (b : Start) (ts : TreeState) → TreeReached (ours real) b ts → Stands b (ts .state .table) (ts .state .desk) (ts .tree)
+here b ts reached = record { at = ts; reached = reached; desk-is = refl; tree-is = refl; table-is = λ u. refl }
+
 -- what such a table holds are records
 pub held-long : (b : Start) → b .room < 256 → (ts : TreeState) → TreeReached (ours real) b ts → (u : ℕ) (rec : List ℕ) → ts .state .table u ≡ some rec
     → length rec ≡ recordLen
 held-long b byte ts reached u rec e = reached-both real real-sound b byte ts reached .stands .inv .sizes u rec e
+
+-- so is what a request hands back
+pub buffer-long : (kind : Kind) (held : Option (List ℕ)) (buffer : List ℕ) → length buffer ≡ recordLen → ((rec : List ℕ) → held ≡ some rec → length rec ≡ recordLen)
+    → length (plainBuffer kind held buffer) ≡ recordLen
+buffer-long Read none buffer l h = l
+buffer-long Read (some rec) buffer l h = h rec refl
+buffer-long Write held buffer l h = l
 
 -- ---- the table after a request, by its answer
 
@@ -81,7 +92,7 @@ ask-low desk kind id leaf buffer q h =
 pub same-refusal : (p q : Refusal) → outcome.Refused p ≡ outcome.Refused q → p ≡ q
 same-refusal p q h = cc
 
-finish-refused : (f : Finished) (q : Refusal) → finishedOutcome f ≡ outcome.Refused q → f ≡ finished.Refused q
+pub finish-refused : (f : Finished) (q : Refusal) → finishedOutcome f ≡ outcome.Refused q → f ≡ finished.Refused q
 finish-refused finished.Record q h = let z : _≡_ {A = ℕ} 0 1 = cc in absurd (omega arith)
 finish-refused finished.Never q h = let z : _≡_ {A = ℕ} 0 1 = cc in absurd (omega arith)
 finish-refused finished.Done q h = let z : _≡_ {A = ℕ} 0 1 = cc in absurd (omega arith)

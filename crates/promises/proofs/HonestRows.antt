@@ -7,8 +7,6 @@ use mathlib.Core.List.{List, [], _∷_}
 use native.Mathlib.Omega.{arith}
 use lib.ListN.{length}
 use Rattle.words.specs.Bytes.{zeros}
-use Rattle.sizes.specs.declared.Sizes.{Sizes}
-use Rattle.sizes.specs.declared.Refusal.{Refusal}
 use Rattle.sizes.specs.declared.Refusal.the-variants.{Forged}
 use Rattle.sizes.specs.declared.Outcome.{Outcome}
 use Rattle.sizes.specs.declared.Outcome.the-variants as outcome
@@ -17,7 +15,6 @@ use Rattle.desk.specs.Readers.{sizesOf}
 use Rattle.items.specs.Real.{real}
 use Rattle.keeping.specs.Table.{Table}
 use Rattle.verdicts.specs.declared.counts.Cell.{Cell}
-use Rattle.verdicts.specs.declared.counts.Cell.the-variants.{Passed}
 use Rattle.verdicts.specs.declared.counts.Found.{Found}
 use Rattle.verdicts.specs.declared.counts.Found.the-variants as found
 use Rattle.verdicts.specs.declared.counts.Counts.{Counts}
@@ -30,9 +27,10 @@ use Rattle.promises.specs.Trees.{TreeState, TreeReached}
 use Rattle.promises.specs.Rows.{tableCell, tableCounts, PassHeld, rowIn, LeavesTable, CountsTable, HonestRows}
 use Rattle.promises.proofs.BookRows.{not-counted, runOf, was-done, any-row}
 use Rattle.promises.proofs.TableRows.{pass-held, held-pass, all-passed, passed-all}
-use Rattle.promises.proofs.HonestRequests.{Stands}
+use Rattle.promises.proofs.HonestRequests.{Stands, here}
 use Rattle.promises.proofs.HonestReads.{ReadIs, read-is, row-low}
-use Rattle.promises.proofs.RowsAnswer.{row-answers, row-roomy}
+use Rattle.promises.proofs.ReadyRuns.{worn-or-full, worn-alone}
+use Rattle.promises.proofs.RowsAnswer.{row-ends}
 use Rattle.promises.proofs.RowsExist.{first-row}
 
 -- ---- a run of reads: counts so far are those of the table
@@ -77,13 +75,10 @@ module _ (b : Start) (byte : b .room < 256) (table : Table) where
 -- ---- the row
 
 module _ (b : Start) (byte : b .room < 256) (ts : TreeState) (reached : TreeReached (ours real) b ts) (chapter first end : ℕ) (draws : List ℕ) where
-  here : Stands b (ts .state .table) (ts .state .desk) (ts .tree)
-  here = record { at = ts; reached = reached; desk-is = refl; tree-is = refl; table-is = λ u. refl }
-
   run : RunIs b byte (ts .state .table) chapter (end - first) first (length draws) (runOf (ts .state .desk) (ts .tree) chapter first end draws)
   run =
       run-is b byte (ts .state .table) chapter (end - first) first (length draws) first draws noCounts (ts .state .desk) (ts .tree)
-      (zeros (pathLen (sizesOf (ts .state .desk)))) (zeros recordLen) 0 here (omega arith) refl (omega arith)
+      (zeros (pathLen (sizesOf (ts .state .desk)))) (zeros recordLen) 0 (here b ts reached) (omega arith) refl (omega arith)
 
   by-outcome : (o : Outcome) → LeavesTable b ts (rowBy o (ts .state .desk) (ts .tree) chapter first end draws)
   by-outcome (outcome.Refused q) = record { after = ts; reached = reached; desk-is = refl; tree-is = refl; table-is = λ u. refl }
@@ -130,7 +125,7 @@ honest-rows =
       never-forged =
           λ b byte ts reached chapter first end draws.
           forged-not b byte ts reached chapter first end draws (rowChecked (ts .state .desk) (ts .tree) first end draws) refl;
-      answers = row-answers;
-      roomy = λ b byte room ts reached chapter first end draws o q h. row-roomy b byte ts reached chapter first end draws o q h room;
+      answers = λ b byte ts reached chapter first end draws o q h. worn-or-full b q (row-ends b byte ts reached chapter first end draws o q h);
+      roomy = λ b byte room ts reached chapter first end draws o q h. worn-alone b q room (row-ends b byte ts reached chapter first end draws o q h);
       first-row = λ b lent p room tree size chapter id draw low high all. first-row b lent p room tree size chapter id draw low high (all 0 (omega arith));
     }

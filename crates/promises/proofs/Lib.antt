@@ -17,9 +17,11 @@ pub mod Trees
 pub mod Requests
 pub mod BookRows
 pub mod TableRows
-pub mod ReadyReads
-pub mod RowsExist
 pub mod HonestRequests
+pub mod ReadyRequests
+pub mod ReadyRuns
+pub mod FirstRequests
+pub mod RowsExist
 pub mod HonestReads
 pub mod RowsAnswer
 pub mod HonestRows
@@ -27,6 +29,10 @@ pub mod AnyTaps
 pub mod TableSheets
 pub mod TextSheets
 pub mod HonestPasses
+pub mod TapsRead
+pub mod TapsWritten
+pub mod TapsAnswer
+pub mod TapsExist
 pub mod HonestTaps
 pub mod Carried
 pub mod OneShown

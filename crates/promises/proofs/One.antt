@@ -27,6 +27,7 @@ use Rattle.store.specs.Finish.{finishRows, finishChecked, finishedOr, finishOf,
 use Rattle.requests.specs.Request.{requestOf}
 use Rattle.verdicts.specs.Verdict.{readingOf, makeOf}
 use Rattle.book.specs.MatrixRow.{rowRows, rowChecked, rowOf}
+use Rattle.tap.specs.Tap.{readOf, writeRows, writeChecked, writeOf}
 use Rattle.promises.specs.Stores.{ours, Start, formatFor}
 use Rattle.promises.specs.DemandOne.{OnlyStatus, ByRows, One, DemandOne}
 use Rattle.promises.proofs.Rows.{reads}
@@ -112,6 +113,13 @@ row-read desk tree first end draws =
     reads (rowRows desk tree first end draws) (rowChecked desk tree first end draws) Refused formatValue (rowChecked desk tree first end draws) refl (λ q h. h)
     (λ q h. h) (λ q. refl) (ap formatValue)
 
+write-read : (desk tree : List ℕ) (first end : ℕ) (draws out : List ℕ)
+    → ByRows (writeRows desk tree first end draws out) (writeChecked desk tree first end draws out) Refused formatValue
+unfolding writeChecked
+write-read desk tree first end draws out =
+    reads (writeRows desk tree first end draws out) (writeChecked desk tree first end draws out) Refused formatValue (writeChecked desk tree first end draws out) refl
+    (λ q h. h) (λ q h. h) (λ q. refl) (ap formatValue)
+
 pub demand-one : (m : Means) → DemandOne m (ours m)
 demand-one m =
     record {
@@ -136,6 +144,9 @@ demand-one m =
       row-once = λ desk tree chapter first end draws. once (rowOf desk tree chapter first end draws);
       read-once = λ rec. once (readingOf rec);
       make-once = λ lent v chapter year name. once (makeOf lent v chapter year name);
+      tap-read-once = λ desk tree chapter year first end draws text. once (readOf desk tree chapter year first end draws text);
+      tap-write-by-rows = write-read;
+      tap-write-once = λ desk tree chapter first end draws out. once (writeOf desk tree chapter first end draws out);
       digest-once = λ text. once (m .digest text);
       cipher-once = λ key nonce text. once (m .cipher key nonce text);
     }

@@ -25,6 +25,7 @@ use Rattle.requests.specs.Request.{requestOf}
 use Rattle.verdicts.specs.declared.Verdict.{Verdict}
 use Rattle.verdicts.specs.Verdict.{readingOf, makeOf}
 use Rattle.book.specs.MatrixRow.{rowRows, rowChecked, rowOf}
+use Rattle.tap.specs.Tap.{readOf, writeRows, writeChecked, writeOf}
 use Rattle.promises.specs.Stores.{Store, Start, formatFor}
 
 -- ---- what a refusal changes
@@ -91,6 +92,11 @@ pub record DemandOne (m : Means) (store : Store) : Type 0 where
   pub row-once : (desk tree : List ℕ) (chapter first end : ℕ) (draws : List ℕ) → One (rowOf desk tree chapter first end draws)
   pub read-once : (rec : List ℕ) → One (readingOf rec)
   pub make-once : (lent : List ℕ) (v : Verdict) (chapter year : ℕ) (name : List ℕ) → One (makeOf lent v chapter year name)
+  -- a text of TAP: read, after the row's checks, and written, after these and its buffer's
+  pub tap-read-once : (desk tree : List ℕ) (chapter year first end : ℕ) (draws text : List ℕ) → One (readOf desk tree chapter year first end draws text)
+  pub tap-write-by-rows : (desk tree : List ℕ) (first end : ℕ) (draws out : List ℕ)
+      → ByRows (writeRows desk tree first end draws out) (writeChecked desk tree first end draws out) Refused formatValue
+  pub tap-write-once : (desk tree : List ℕ) (chapter first end : ℕ) (draws out : List ℕ) → One (writeOf desk tree chapter first end draws out)
   -- the digest and the cipher
   pub digest-once : (text : List ℕ) → One (m .digest text)
   pub cipher-once : (key nonce text : List ℕ) → One (m .cipher key nonce text)

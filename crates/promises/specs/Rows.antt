@@ -8,7 +8,6 @@ use mathlib.Core.List.{List, [], _∷_}
 use lib.ListN.{length, getD}
 use Rattle.sizes.specs.declared.Refusal.{Refusal}
 use Rattle.sizes.specs.declared.Refusal.the-variants.{Forged, Worn, Full}
-use Rattle.sizes.specs.declared.Outcome.{Outcome}
 use Rattle.sizes.specs.declared.Outcome.the-variants as outcome
 use Rattle.sizes.specs.Sizes.{leaves, treeLen}
 use Rattle.desk.specs.declared.Kind.the-variants.{Read}
@@ -16,7 +15,6 @@ use Rattle.desk.specs.Readers.{statusOf}
 use Rattle.desk.specs.Status.{readyStatus}
 use Rattle.items.specs.Real.{real}
 use Rattle.store.specs.declared.Finished.the-variants as finished
-use Rattle.requests.specs.declared.Answered.{Answered}
 use Rattle.requests.specs.declared.Answered.the-variants as answered
 use Rattle.requests.specs.Request.{requestOf}
 use Rattle.keeping.specs.Table.{Table}
@@ -26,7 +24,6 @@ use Rattle.verdicts.specs.declared.Reading.the-variants.{Good}
 use Rattle.verdicts.specs.declared.counts.Cell.{Cell}
 use Rattle.verdicts.specs.declared.counts.Cell.the-variants.{NotRun}
 use Rattle.verdicts.specs.declared.counts.Counts.{Counts}
-use Rattle.verdicts.specs.declared.counts.Row.{Row}
 use Rattle.verdicts.specs.declared.counts.Row.the-variants.{Refused, Counted}
 use Rattle.verdicts.specs.Verdict.{readingOf}
 use Rattle.verdicts.specs.Cells.{recordCell, noCounts, plus, sum}

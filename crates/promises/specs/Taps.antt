@@ -2,17 +2,19 @@
 -- input a text that is refused changes nothing. Assumes nothing.
 use Prim.Native.Nat.{ℕ, zero, suc, _+_, _-_, _<_, _≤_}
 use mathlib.Core.Path.{_≡_}
-use mathlib.Core.Logic.{_≢_}
+use mathlib.Core.Logic.{_≢_, _⊎_}
 use mathlib.Core.Bool.{cond, _&&_}
 use mathlib.Core.Option.{Option, none, some}
-use mathlib.Core.List.{List, [], _++_}
+use mathlib.Core.List.{List, [], _∷_, _++_}
 use lib.ListN.{length}
 use lib.Dec.{leb, ltb}
 use Rattle.words.specs.Bytes.{splice, zeros}
 use Rattle.sizes.specs.declared.Refusal.{Refusal}
-use Rattle.sizes.specs.declared.Refusal.the-variants.{Forged}
+use Rattle.sizes.specs.declared.Refusal.the-variants.{Forged, Worn, Full}
 use Rattle.sizes.specs.declared.Outcome.the-variants as outcome
-use Rattle.sizes.specs.Sizes.{recordLen}
+use Rattle.sizes.specs.Sizes.{recordLen, treeLen}
+use Rattle.desk.specs.Readers.{statusOf}
+use Rattle.desk.specs.Status.{readyStatus}
 use Rattle.items.specs.Real.{real}
 use Rattle.keeping.specs.Table.{Table}
 use Rattle.book.specs.MatrixRow.{rowChecked}
@@ -20,12 +22,15 @@ use Rattle.sheets.specs.Sheet.{entryAt, isRecord}
 use Rattle.taking.specs.declared.Trouble.{Trouble}
 use Rattle.taking.specs.declared.Text.the-variants as took
 use Rattle.taking.specs.Taking.{takeOf}
-use Rattle.printing.specs.Printing.{textOf}
+use Rattle.printing.specs.Printed.{roomOf}
+use Rattle.printing.specs.Printing.{headText, textOf}
 use Rattle.tap.specs.declared.Taken.the-variants as taken
 use Rattle.tap.specs.declared.Printed.the-variants as printed
 use Rattle.tap.specs.Tap.{ReadResult, readOf, WriteResult, writeChecked, writeOf}
-use Rattle.promises.specs.Stores.{ours, Start}
+use Rattle.promises.specs.Stores.{ours, Start, formatFor}
 use Rattle.promises.specs.Trees.{TreeState, TreeReached}
+use Rattle.promises.specs.Rows.{AllLeaves, MayBegin}
+use Rattle.promises.specs.Exists.{Proper}
 
 -- ---- the plain table and a sheet
 
@@ -74,6 +79,17 @@ pub record PartRead (b : Start) (ts : TreeState) (chapter year first end : ℕ) 
   pub leaves : Leaves b (tapRead ts chapter year first end draws text .desk) (tapRead ts chapter year first end draws text .tree)
       (λ id held. held ≡ tableAfter first count (sheetOf chapter year first end text) (ts .state .table) id)
 
+-- a text may be read: a row may begin, and the text is good
+pub record MayRead (b : Start) (ts : TreeState) (chapter year first end : ℕ) (draws text : List ℕ) : Type 0 where
+  pub may-begin : MayBegin b ts first end draws
+  pub good : takeOf chapter year (end - first) text .answer ≡ took.Good
+
+-- a text may be written: the desk is ready, its own checks refuse nothing, and its draws are leaves
+pub record MayWrite (b : Start) (ts : TreeState) (first end : ℕ) (draws out : List ℕ) : Type 0 where
+  pub ready : statusOf (ts .state .desk) ≡ readyStatus
+  pub checked : writeChecked (ts .state .desk) (ts .tree) first end draws out ≡ outcome.Done
+  pub all-leaves : AllLeaves b draws
+
 pub record HonestTaps : Type 0 where
   -- a text that is read: each id with a line holds its record, all others what they held
   pub reads : (b : Start) → b .room < 256 → (ts : TreeState) → TreeReached (ours real) b ts → (chapter year first end : ℕ) (draws text : List ℕ)
@@ -85,6 +101,14 @@ pub record HonestTaps : Type 0 where
       → PartRead b ts chapter year first end draws text
   pub read-not-forged : (b : Start) → b .room < 256 → (ts : TreeState) → TreeReached (ours real) b ts → (chapter year first end : ℕ) (draws text : List ℕ)
       → tapRead ts chapter year first end draws text .answer ≢ taken.Refused Forged
+  -- a text that may be read is read, or it ends as Worn or Full: no other refusal ends it, and it is not answered as bad
+  pub read-answers : (b : Start) → b .room < 256 → (ts : TreeState) → TreeReached (ours real) b ts → (chapter year first end : ℕ) (draws text : List ℕ)
+      → MayRead b ts chapter year first end draws text
+      → ((q : Refusal) → tapRead ts chapter year first end draws text .answer ≡ taken.Refused q → (q ≡ Worn) ⊎ (q ≡ Full))
+      × ((t : Trouble) (line : ℕ) → tapRead ts chapter year first end draws text .answer ≢ taken.Bad t line)
+  -- where the stash has room for every id, as Worn alone
+  pub read-roomy : (b : Start) → b .room < 256 → b .ids ≤ b .room → (ts : TreeState) → TreeReached (ours real) b ts → (chapter year first end : ℕ) (draws text : List ℕ)
+      → MayRead b ts chapter year first end draws text → (q : Refusal) → tapRead ts chapter year first end draws text .answer ≡ taken.Refused q → q ≡ Worn
   -- a text that is written is the one that says the table, and the table stays, whatever the answer
   pub writes : (b : Start) → b .room < 256 → (ts : TreeState) → TreeReached (ours real) b ts → (chapter first end : ℕ) (draws out : List ℕ) (len : ℕ)
       → tapWrite ts chapter first end draws out .answer ≡ printed.Length len
@@ -94,6 +118,21 @@ pub record HonestTaps : Type 0 where
       → Leaves b (tapWrite ts chapter first end draws out .desk) (tapWrite ts chapter first end draws out .tree) (λ id held. held ≡ ts .state .table id)
   pub write-not-forged : (b : Start) → b .room < 256 → (ts : TreeState) → TreeReached (ours real) b ts → (chapter first end : ℕ) (draws out : List ℕ)
       → tapWrite ts chapter first end draws out .answer ≢ printed.Refused Forged
+  -- a text that may be written is written, or it ends in the same ways
+  pub write-answers : (b : Start) → b .room < 256 → (ts : TreeState) → TreeReached (ours real) b ts → (chapter first end : ℕ) (draws out : List ℕ)
+      → MayWrite b ts first end draws out → (q : Refusal) → tapWrite ts chapter first end draws out .answer ≡ printed.Refused q → (q ≡ Worn) ⊎ (q ≡ Full)
+  pub write-roomy : (b : Start) → b .room < 256 → b .ids ≤ b .room → (ts : TreeState) → TreeReached (ours real) b ts → (chapter first end : ℕ) (draws out : List ℕ)
+      → MayWrite b ts first end draws out → (q : Refusal) → tapWrite ts chapter first end draws out .answer ≡ printed.Refused q → q ≡ Worn
+  -- there are texts that are read: on a fresh store, over a tree with any bytes, a good text for one id is, and every text that says a sheet is good
+  pub first-text : (b : Start) (lent : List ℕ) → Proper b lent → 1 ≤ b .room → (tree : List ℕ) → length tree ≡ treeLen (b .sizes)
+      → (chapter year id draw : ℕ) → 1 ≤ id → id ≤ b .ids → AllLeaves b (draw ∷ []) → (text : List ℕ) → takeOf chapter year 1 text .answer ≡ took.Good
+      → readOf (formatFor b lent .desk) tree chapter year id (id + 1) (draw ∷ []) text .answer ≡ taken.Done
+  pub good-texts : (chapter year n : ℕ) (sheet : List ℕ) → n < 65536 → takeOf chapter year n (textOf chapter n sheet) .answer ≡ took.Good
+  -- and there are texts that are written: of one id of a fresh store, version and plan alone
+  pub first-written : (b : Start) (lent : List ℕ) → Proper b lent → 1 ≤ b .room → (tree : List ℕ) → length tree ≡ treeLen (b .sizes)
+      → (chapter id draw : ℕ) → 1 ≤ id → id ≤ b .ids → AllLeaves b (draw ∷ []) → (out : List ℕ) → length out ≡ roomOf 1
+      → (writeOf (formatFor b lent .desk) tree chapter id (id + 1) (draw ∷ []) out .answer ≡ printed.Length (length (headText 1)))
+      × (writeOf (formatFor b lent .desk) tree chapter id (id + 1) (draw ∷ []) out .out ≡ splice out 0 (headText 1))
 
 -- ---- on every input, whatever desk and tree are
 

@@ -1,11 +1,12 @@
 -- TAP in and out: a text read into the store for a range of ids, and the text that says the range. Number k of a text is id `first` + k − 1. What each
 -- answers, and what every buffer then holds, on every input. Assumes nothing.
 use Prim.Native.Nat.{ℕ, _-_}
-use mathlib.Core.Bool.{not}
+use mathlib.Core.Bool.{Bool, not}
 use mathlib.Core.List.{List, [], _∷_, _++_}
 use lib.ListN.{length}
 use lib.Dec.{eqb}
 use Rattle.words.specs.Bytes.{splice}
+use Rattle.sizes.specs.declared.Refusal.{Refusal}
 use Rattle.sizes.specs.declared.Refusal.the-variants.{BadLength}
 use Rattle.sizes.specs.declared.Outcome.{Outcome}
 use Rattle.sizes.specs.declared.Outcome.the-variants as outcome
@@ -66,8 +67,11 @@ pub record WriteResult : Type 0 where
 abbrev pub wrote : Printed → List ℕ → List ℕ → List ℕ → WriteResult
 wrote a d t o = record { answer = a; desk = d; tree = t; out = o }
 
+abbrev pub writeRows : List ℕ → List ℕ → ℕ → ℕ → List ℕ → List ℕ → List (Bool × Refusal)
+writeRows desk tree first end draws out = rowRows desk tree first end draws ++ ((not (eqb (length out) (roomOf (end - first))), BadLength) ∷ [])
+
 unfoldable pub writeChecked : List ℕ → List ℕ → ℕ → ℕ → List ℕ → List ℕ → Outcome
-writeChecked desk tree first end draws out = firstOf (rowRows desk tree first end draws ++ ((not (eqb (length out) (roomOf (end - first))), BadLength) ∷ []))
+writeChecked desk tree first end draws out = firstOf (writeRows desk tree first end draws out)
 
 -- the text goes to the buffer's front, and the answer is its length
 abbrev pub printedBy : Outcome → ℕ → ℕ → SheetResult → List ℕ → WriteResult
