@@ -21,6 +21,8 @@ pub enum Refusal {
     Forged = 9,
     Worn = 10,
     Full = 11,
+    Malformed = 12,
+    BadPlan = 13,
 }
 
 impl Refusal {

@@ -1,7 +1,10 @@
 //! The command line: reading it, and printing what a comparison found.
 
 use crate::compare::{self, Config, Report, DEFAULT_CALLS, SECTIONS};
+use crate::corpus;
 use crate::store::{Second, Store};
+use std::io::{self, Read, Write};
+use std::path::Path;
 use std::time::{Duration, Instant};
 
 const HELP: &str = "\
@@ -16,6 +19,18 @@ second compare [--self] [--calls N] [--seed S] [--section NAME] [--trace]
     --section NAME  one of plain, honest, flipped, replayed, desks, paths,
                     entries, book; what wasn't reached is then no failure
     --trace         tell of every call on standard error before it is made
+
+second tap-corpus FOLDER
+    Reads every text FOLDER/*.tap through a store and compares what it says
+    with the file .expected beside it; writes what was read and reads it again.
+
+second tap-written FOLDER [--make]
+    Writes the text of every list of records FOLDER/*.records and compares it
+    with the file .tap beside it, or makes that file.
+
+second tap-read N
+    Reads a text for a range of N ids from standard input and prints what it
+    says, in the form of the files .expected.
 
 second bench
     Times digest, cipher and whole requests and prints tables.
@@ -32,6 +47,10 @@ pub fn run(arguments: &[String]) -> u8 {
             Ok(options) => compare(&options),
             Err(what) => misused(&what),
         },
+        Some((&"tap-corpus", [folder])) => told(corpus::texts_command(Path::new(folder))),
+        Some((&"tap-written", [folder])) => written(folder, false),
+        Some((&"tap-written", [folder, "--make"])) => written(folder, true),
+        Some((&"tap-read", [count])) => told(tap_read(count)),
         Some((&"bench", [])) => {
             crate::bench::run(&sides());
             0
@@ -40,13 +59,37 @@ pub fn run(arguments: &[String]) -> u8 {
             print!("{HELP}");
             0
         }
-        _ => misused("expected `compare` or `bench`; `--help` tells more"),
+        _ => misused("no such command; `--help` tells of those that there are"),
     }
 }
 
 fn misused(what: &str) -> u8 {
     eprintln!("second: {what}");
     2
+}
+
+/// The exit status of a command, or why it couldn't be run.
+fn told(result: Result<u8, String>) -> u8 {
+    result.unwrap_or_else(|what| misused(&what))
+}
+
+fn written(folder: &str, make: bool) -> u8 {
+    told(corpus::written_command(Path::new(folder), make))
+}
+
+fn tap_read(count: &str) -> Result<u8, String> {
+    let range = count
+        .parse()
+        .ok()
+        .filter(|count| (1..=4096).contains(count));
+    let count: u16 = range.ok_or(format!("no range has {count} ids"))?;
+    let mut text = Vec::new();
+    let read = io::stdin().read_to_end(&mut text);
+    read.map_err(|error| format!("standard input: {error}"))?;
+    let outcome = corpus::outcome(&text, count).told(count);
+    let written = io::stdout().write_all(&outcome);
+    written.map_err(|error| format!("standard output: {error}"))?;
+    Ok(0)
 }
 
 struct Options {

@@ -2,7 +2,7 @@
 
 use crate::format::Sizes;
 use crate::row::{Asked, Counts};
-use crate::store::Store;
+use crate::store::{Sheet, Store};
 
 extern "C" {
     fn bawnaroy_format(
@@ -78,6 +78,35 @@ extern "C" {
         draws: *const u16,
         draws_len: usize,
         counts: *mut u16,
+    ) -> i32;
+    fn bawnaroy_tap_room(n: u16) -> usize;
+    fn bawnaroy_tap_read(
+        desk: *mut u8,
+        desk_len: usize,
+        tree: *mut u8,
+        tree_len: usize,
+        chapter: u8,
+        year: u16,
+        first: u16,
+        end: u16,
+        draws: *const u16,
+        draws_len: usize,
+        text: *const u8,
+        text_len: usize,
+        line: *mut u64,
+    ) -> i32;
+    fn bawnaroy_tap_write(
+        desk: *mut u8,
+        desk_len: usize,
+        tree: *mut u8,
+        tree_len: usize,
+        chapter: u8,
+        first: u16,
+        end: u16,
+        draws: *const u16,
+        draws_len: usize,
+        out: *mut u8,
+        out_len: usize,
     ) -> i32;
 }
 
@@ -200,6 +229,63 @@ impl Store for Library {
                 draws.as_ptr(),
                 draws.len(),
                 counts.as_mut_ptr(),
+            )
+        }
+    }
+
+    fn tap_room(&self, count: u16) -> usize {
+        unsafe { bawnaroy_tap_room(count) }
+    }
+
+    fn tap_read(
+        &self,
+        desk: &mut [u8],
+        tree: &mut [u8],
+        sheet: Sheet,
+        draws: &[u16],
+        text: &[u8],
+        line: &mut [u64; 1],
+    ) -> i32 {
+        unsafe {
+            bawnaroy_tap_read(
+                desk.as_mut_ptr(),
+                desk.len(),
+                tree.as_mut_ptr(),
+                tree.len(),
+                sheet.asked.chapter,
+                sheet.year,
+                sheet.asked.first,
+                sheet.asked.end,
+                draws.as_ptr(),
+                draws.len(),
+                text.as_ptr(),
+                text.len(),
+                line.as_mut_ptr(),
+            )
+        }
+    }
+
+    fn tap_write(
+        &self,
+        desk: &mut [u8],
+        tree: &mut [u8],
+        asked: Asked,
+        draws: &[u16],
+        out: &mut [u8],
+    ) -> i32 {
+        unsafe {
+            bawnaroy_tap_write(
+                desk.as_mut_ptr(),
+                desk.len(),
+                tree.as_mut_ptr(),
+                tree.len(),
+                asked.chapter,
+                asked.first,
+                asked.end,
+                draws.as_ptr(),
+                draws.len(),
+                out.as_mut_ptr(),
+                out.len(),
             )
         }
     }

@@ -2,7 +2,7 @@
 //! through the store and added up.
 
 use crate::answer::{ensure, Answer, Refusal};
-use crate::ask::ask_read;
+use crate::ask::{ask_read, ask_write};
 use crate::desk::Desk;
 use crate::finish::finish;
 use crate::good::is_good;
@@ -49,14 +49,14 @@ pub fn row(
     let shape = may_begin(bytes, tree, asked, draws)?;
     let mut counts = Counts::default();
     for (id, draw) in (asked.first..asked.end).zip(draws) {
-        let found = request(bytes, tree, shape, id, *draw)?;
+        let found = request(bytes, tree, shape, id, *draw, None)?;
         counts[column(asked.chapter, found)] += 1;
     }
     Ok(counts)
 }
 
 /// The refusals that come before any ask.
-fn may_begin(bytes: &[u8], tree: &[u8], asked: Asked, draws: &[u16]) -> Result<Shape, Refusal> {
+pub fn may_begin(bytes: &[u8], tree: &[u8], asked: Asked, draws: &[u16]) -> Result<Shape, Refusal> {
     ensure(is_good(bytes), Refusal::BadDesk)?;
     let desk = Desk(bytes);
     let inside = asked.first >= 1 && asked.end <= desk.ids() + 1;
@@ -68,16 +68,21 @@ fn may_begin(bytes: &[u8], tree: &[u8], asked: Asked, draws: &[u16]) -> Result<S
     Ok(shape)
 }
 
-/// One whole read request: the record, or nothing for Never.
-fn request(
+/// One whole request, a write if there is a record to be written: the record
+/// that was read, or nothing.
+pub fn request(
     bytes: &mut [u8],
     tree: &mut [u8],
     shape: Shape,
     id: u16,
     draw: u16,
+    written: Option<&[u8; RECORD]>,
 ) -> Result<Option<[u8; RECORD]>, Refusal> {
     let Shape { height, slots } = shape;
-    let leaf = ask_read(bytes, id, draw)?;
+    let leaf = match written {
+        Some(record) => ask_write(bytes, id, draw, record)?,
+        None => ask_read(bytes, id, draw)?,
+    };
     let mut path = vec![0; shape.path_length()];
     fetch(tree, height, slots, leaf, &mut path)?;
     let mut record = [0; RECORD];

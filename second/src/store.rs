@@ -4,6 +4,7 @@ use crate::answer::{Answer, Refusal};
 use crate::format::Sizes;
 use crate::row::{Asked, Counts};
 use crate::sizes::Shape;
+use crate::tap::{self, Unread};
 use crate::verdict::{Said, Verdict};
 use crate::{ask, chacha20, finish, format, row, sha256, sizes, tree, verdict};
 
@@ -39,6 +40,31 @@ pub trait Store {
         draws: &[u16],
         counts: &mut Counts,
     ) -> i32;
+    fn tap_room(&self, count: u16) -> usize;
+    fn tap_read(
+        &self,
+        desk: &mut [u8],
+        tree: &mut [u8],
+        sheet: Sheet,
+        draws: &[u16],
+        text: &[u8],
+        line: &mut [u64; 1],
+    ) -> i32;
+    fn tap_write(
+        &self,
+        desk: &mut [u8],
+        tree: &mut [u8],
+        asked: Asked,
+        draws: &[u16],
+        out: &mut [u8],
+    ) -> i32;
+}
+
+/// What a text is read into: a row, and the suite year of its verdicts.
+#[derive(Clone, Copy, Debug, PartialEq, Eq)]
+pub struct Sheet {
+    pub asked: Asked,
+    pub year: u16,
 }
 
 pub const COMPLETE: i32 = 1;
@@ -153,6 +179,43 @@ impl Store for Second {
                     false => INCOMPLETE,
                 }
             }
+            Err(refusal) => refusal.answer(),
+        }
+    }
+
+    fn tap_room(&self, count: u16) -> usize {
+        tap::print::room(count)
+    }
+
+    fn tap_read(
+        &self,
+        desk: &mut [u8],
+        tree: &mut [u8],
+        sheet: Sheet,
+        draws: &[u16],
+        text: &[u8],
+        line: &mut [u64; 1],
+    ) -> i32 {
+        match tap::tap_read(desk, tree, sheet.asked, sheet.year, draws, text) {
+            Ok(()) => 0,
+            Err(Unread::Store(refusal)) => refusal.answer(),
+            Err(Unread::Text(refused)) => {
+                *line = [refused.line];
+                refused.why.refusal().answer()
+            }
+        }
+    }
+
+    fn tap_write(
+        &self,
+        desk: &mut [u8],
+        tree: &mut [u8],
+        asked: Asked,
+        draws: &[u16],
+        out: &mut [u8],
+    ) -> i32 {
+        match tap::tap_write(desk, tree, asked, draws, out) {
+            Ok(length) => length as i32,
             Err(refusal) => refusal.answer(),
         }
     }
