@@ -14,10 +14,10 @@ second compare [--self] [--calls N] [--seed S] [--section NAME] [--trace]
     Runs random histories over the library and the second program and compares
     answers and whole buffers after every call.
     --self          compare the second program with itself (needs no library)
-    --calls N       about how many calls to make (220000)
+    --calls N       about how many calls to make (236000)
     --seed S        what to draw from (1); the same seed draws the same calls
     --section NAME  one of plain, honest, flipped, replayed, desks, paths,
-                    entries, book; what wasn't reached is then no failure
+                    entries, book, tap; what wasn't reached is then no failure
     --trace         tell of every call on standard error before it is made
 
 second tap-corpus FOLDER

@@ -7,7 +7,7 @@ use crate::desk;
 use crate::format::Sizes;
 use crate::row::Asked;
 
-fn refusal(answer: i32) -> &'static str {
+pub fn refusal(answer: i32) -> &'static str {
     let names = [
         "BadDesk",
         "Stopped",
@@ -20,11 +20,13 @@ fn refusal(answer: i32) -> &'static str {
         "Forged",
         "Worn",
         "Full",
+        "Malformed",
+        "BadPlan",
     ];
     names[(-1 - answer) as usize]
 }
 
-fn name(answer: i32, accepted: &'static str) -> &'static str {
+pub fn name(answer: i32, accepted: &'static str) -> &'static str {
     if answer < 0 {
         refusal(answer)
     } else {
@@ -170,7 +172,7 @@ impl Pair<'_> {
     }
 
     /// How the lent desk was stopped, if it was.
-    fn stopped(&self) -> Option<&'static str> {
+    pub fn stopped(&self) -> Option<&'static str> {
         match self.desk().get(desk::STATUS)? {
             2 => Some("stopped as forged"),
             3 => Some("stopped as worn"),
@@ -179,7 +181,12 @@ impl Pair<'_> {
         }
     }
 
-    fn count_stopped(&mut self, group: &'static str, status: Option<&'static str>, answer: i32) {
+    pub fn count_stopped(
+        &mut self,
+        group: &'static str,
+        status: Option<&'static str>,
+        answer: i32,
+    ) {
         if let (Some(status), -2) = (status, answer) {
             self.tally.reach(group, status);
         }

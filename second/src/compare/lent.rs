@@ -18,6 +18,10 @@ impl Element for u16 {
     const GUARD: u16 = 0xa5a5;
 }
 
+impl Element for u64 {
+    const GUARD: u64 = 0xa5a5_a5a5_a5a5_a5a5;
+}
+
 #[derive(Clone, Default)]
 pub struct Lent<T = u8> {
     elements: Vec<T>,

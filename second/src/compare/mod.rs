@@ -16,6 +16,13 @@ mod server;
 mod spoil_desk;
 mod spoil_path;
 mod tally;
+mod tap;
+mod tap_arguments;
+mod tap_calls;
+mod tap_kept;
+mod tap_lines;
+mod tap_tally;
+mod tap_texts;
 mod verdicts;
 
 pub use pair::Mismatch;
@@ -27,7 +34,7 @@ use crate::store::Store;
 use pair::Pair;
 use server::Server;
 
-pub const DEFAULT_CALLS: u64 = 220_000;
+pub const DEFAULT_CALLS: u64 = 236_000;
 
 type History = fn(&mut Pair, &mut Random, u64) -> Result<(), Mismatch>;
 
@@ -38,7 +45,7 @@ pub struct Section {
     history: History,
 }
 
-pub const SECTIONS: [Section; 8] = [
+pub const SECTIONS: [Section; 9] = [
     Section {
         name: "plain",
         share: 2,
@@ -78,6 +85,11 @@ pub const SECTIONS: [Section; 8] = [
         name: "book",
         share: 10,
         history: book::history,
+    },
+    Section {
+        name: "tap",
+        share: 8,
+        history: tap::history,
     },
 ];
 

@@ -34,8 +34,10 @@ impl fmt::Display for Mismatch {
 }
 
 /// Everything that is lent to the entries of one side. `input` is a record to
-/// be written or read, a name or a key, and no entry may change it or the
-/// draws. `numbers` is what a verdict says, or the counts of a row.
+/// be written or read, a name, a key or a text, and no entry may change it or
+/// the draws. `numbers` is what a verdict says, or the counts of a row; `out`
+/// is where a text is written, and `line` is the line that a text is refused
+/// at.
 #[derive(Clone, Default)]
 pub struct Buffers {
     pub desk: Lent,
@@ -45,6 +47,8 @@ pub struct Buffers {
     pub input: Lent,
     pub draws: Lent<u16>,
     pub numbers: Lent<u16>,
+    pub out: Lent,
+    pub line: Lent<u64>,
 }
 
 impl Buffers {
@@ -56,6 +60,7 @@ impl Buffers {
             ("tree", &self.tree, &tested.tree),
             ("record", &self.record, &tested.record),
             ("input", &self.input, &tested.input),
+            ("out", &self.out, &tested.out),
         ];
         let bytes = buffers
             .into_iter()
@@ -63,6 +68,7 @@ impl Buffers {
         bytes
             .or_else(|| told("draws", "number", &self.draws, &tested.draws))
             .or_else(|| told("numbers", "number", &self.numbers, &tested.numbers))
+            .or_else(|| told("line", "number", &self.line, &tested.line))
     }
 }
 
@@ -163,6 +169,22 @@ impl<'a> Pair<'a> {
 
     pub fn lend_numbers(&mut self, content: &[u16]) {
         self.lend(|buffers| &mut buffers.numbers, content);
+    }
+
+    pub fn out(&self) -> &[u8] {
+        self.second.out.get()
+    }
+
+    pub fn line(&self) -> &[u64] {
+        self.second.line.get()
+    }
+
+    pub fn lend_out(&mut self, content: &[u8]) {
+        self.lend(|buffers| &mut buffers.out, content);
+    }
+
+    pub fn lend_line(&mut self, content: u64) {
+        self.lend(|buffers| &mut buffers.line, &[content]);
     }
 
     pub fn save(&self) -> Saved {

@@ -21,21 +21,21 @@ use crate::sizes::Shape;
 use crate::tree::put;
 
 /// What can be wrong with the arguments, as places in a list.
-const DESK: usize = 0;
-const RANGE: usize = 1;
-const DRAWS: usize = 2;
-const TREE: usize = 3;
-const LEAF: usize = 4;
+pub const DESK: usize = 0;
+pub const RANGE: usize = 1;
+pub const DRAWS: usize = 2;
+pub const TREE: usize = 3;
+pub const LEAF: usize = 4;
 
 /// One call of a row, put together.
-struct Call {
-    desk: Vec<u8>,
-    tree: Vec<u8>,
-    asked: Asked,
-    draws: Vec<u16>,
-    bad: [bool; 5],
+pub struct Call {
+    pub desk: Vec<u8>,
+    pub tree: Vec<u8>,
+    pub asked: Asked,
+    pub draws: Vec<u16>,
+    pub bad: [bool; 5],
     /// What is wrong with a bad range.
-    reason: &'static str,
+    pub reason: &'static str,
 }
 
 pub fn history(pair: &mut Pair, random: &mut Random, number: u64) -> Result<(), Mismatch> {
@@ -86,7 +86,7 @@ pub fn bad_desks(pair: &mut Pair, random: &mut Random, turn: u64) -> Result<(), 
     Ok(())
 }
 
-fn put_together(random: &mut Random, sizes: Sizes) -> Call {
+pub fn put_together(random: &mut Random, sizes: Sizes) -> Call {
     let mut bad: [bool; 5] = bad(random);
     let mut made = Made::new(random, sizes);
     let chapter = random.below(34) as u8;
@@ -162,7 +162,7 @@ fn tidy(made: &mut Made) {
 }
 
 /// A tree of junk with the made path in it, whole or with one check broken.
-fn some_tree(random: &mut Random, made: &mut Made, bad_length: bool) -> Vec<u8> {
+pub fn some_tree(random: &mut Random, made: &mut Made, bad_length: bool) -> Vec<u8> {
     let fault = random.once_in(6).then(|| random.pick(Fault::ALL));
     let broken = fault.and_then(|fault| spoil_path::spoil(random, made, fault));
     let path = made.seal(broken.flatten());
@@ -175,7 +175,7 @@ fn some_tree(random: &mut Random, made: &mut Made, bad_length: bool) -> Vec<u8> 
 }
 
 /// A good range with `id` in it.
-fn around(random: &mut Random, id: u16, ids: u16) -> (u16, u16, &'static str) {
+pub fn around(random: &mut Random, id: u16, ids: u16) -> (u16, u16, &'static str) {
     let first = id - random.below(u64::from(id).min(6)) as u16;
     let end = id + 1 + random.below(u64::from(ids + 1 - id).min(6)) as u16;
     (first, end, "")

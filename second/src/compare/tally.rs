@@ -1,8 +1,10 @@
 //! What a comparison reached. A run fails if anything listed here was not.
 
+use super::tap_tally;
 use crate::check::Fault;
 use crate::found::Named;
 use crate::good::Flaw;
+use crate::tap::why::Why;
 use std::collections::BTreeMap;
 
 type Key = (&'static str, &'static str);
@@ -45,7 +47,7 @@ pub const RANGE_REASONS: [&str; 4] = [
 pub const ROW_REASONS: [&str; 2] = ["BadLength by draws alone", "BadLength by tree alone"];
 /// What a row counts, in the order of its counts.
 pub const COLUMNS: [&str; 6] = ["passed", "failed", "skipped", "errors", "bad", "not run"];
-const STATUSES: &[&str] = &["stopped as forged", "stopped as worn", "stopped as full"];
+pub const STATUSES: &[&str] = &["stopped as forged", "stopped as worn", "stopped as full"];
 
 /// Everything that a whole run has to reach, by group.
 const EXPECTED: &[(&str, &[&str])] = &[
@@ -207,14 +209,18 @@ const EXPECTED: &[(&str, &[&str])] = &[
 ];
 
 /// Groups with one counter for each condition of a desk or check of a path.
-const BAD_DESKS: [&str; 4] = [
+const BAD_DESKS: [&str; 6] = [
     "ask_read, bad desk",
     "ask_write, bad desk",
     "finish, bad desk",
     "row, bad desk",
+    "tap_read, bad desk",
+    "tap_write, bad desk",
 ];
-/// The place of a row among them.
+/// The places of the entries of the book among them.
 pub const ROW: usize = 3;
+pub const TAP_READ: usize = 4;
+pub const TAP_WRITE: usize = 5;
 const FORGED: &str = "finish, forged alone by";
 
 pub struct Tally(BTreeMap<Key, u64>);
@@ -222,13 +228,15 @@ pub struct Tally(BTreeMap<Key, u64>);
 impl Default for Tally {
     fn default() -> Tally {
         let mut counts = BTreeMap::new();
-        for (group, names) in EXPECTED {
+        for (group, names) in EXPECTED.iter().chain(tap_tally::EXPECTED) {
             counts.extend(names.iter().map(|name| ((*group, *name), 0)));
         }
         for group in BAD_DESKS {
             counts.extend(Flaw::ALL.iter().map(|flaw| ((group, flaw.name()), 0)));
         }
         counts.extend(Fault::ALL.iter().map(|fault| ((FORGED, fault.name()), 0)));
+        let refused = tap_tally::REFUSED_BY;
+        counts.extend(Why::ALL.iter().map(|why| ((refused, why.name()), 0)));
         Tally(counts)
     }
 }

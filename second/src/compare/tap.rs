@@ -1,0 +1,191 @@
+//! Texts read into the book and written from it.
+
+use super::draw;
+use super::pair::{Mismatch, Pair};
+use super::tap_texts::{self, Drawn};
+use super::{server, tap_arguments, tap_kept};
+use crate::corpus::{self, Outcome, Sample, CHAPTER, YEAR};
+use crate::format::Sizes;
+use crate::random::Random;
+use crate::row::Asked;
+use crate::sizes::Shape;
+use crate::store::Sheet;
+
+/// The stored files come first, and then the sorts of histories take turns.
+pub fn history(pair: &mut Pair, random: &mut Random, number: u64) -> Result<(), Mismatch> {
+    match number {
+        0 => return stored_texts(pair, random),
+        1 => return stored_records(pair, random),
+        2 => return rooms(pair, random),
+        3 => return tap_kept::wide(pair, random),
+        _ => {}
+    }
+    let turn = number / 32;
+    match number % 32 {
+        0 if turn.is_multiple_of(2) => tap_arguments::bad_desks(pair, random, turn / 2),
+        1 | 2 => tap_kept::roomy(pair, random),
+        3 => tap_kept::tight(pair, random, turn),
+        4..=7 => drawn_texts(pair, random),
+        _ => tap_arguments::history(pair, random, number),
+    }
+}
+
+/// A fresh store with room for all of so many ids.
+pub fn fresh(pair: &mut Pair, random: &mut Random, ids: u16) -> Result<Shape, Mismatch> {
+    let sizes = Sizes {
+        height: random.range(2, 5) as u8,
+        slots: random.range(2, 5) as u8,
+        stash: 255,
+        ids,
+    };
+    server::formatted(pair, random, sizes)
+}
+
+/// A sheet of the length `count` somewhere among the ids.
+pub fn somewhere(random: &mut Random, ids: u16, count: u16, chapter: u8) -> Sheet {
+    let first = random.range(1, u64::from(ids - count) + 1) as u16;
+    let asked = Asked {
+        chapter,
+        first,
+        end: first + count,
+    };
+    Sheet {
+        asked,
+        year: random.word() as u16,
+    }
+}
+
+/// Reads a text with a draw for each id.
+pub fn read(
+    pair: &mut Pair,
+    random: &mut Random,
+    shape: Shape,
+    sheet: Sheet,
+    text: &[u8],
+) -> Result<i32, Mismatch> {
+    let count = usize::from(sheet.asked.length());
+    pair.lend_draws(&draw::leaves(random, shape, count));
+    pair.lend_line(random.word());
+    pair.tap_read(sheet, text)
+}
+
+/// Writes a text with a draw for each id: the answer, and the text.
+pub fn write(
+    pair: &mut Pair,
+    random: &mut Random,
+    shape: Shape,
+    asked: Asked,
+) -> Result<(i32, Vec<u8>), Mismatch> {
+    let count = asked.length();
+    pair.lend_draws(&draw::leaves(random, shape, count.into()));
+    let room = pair.tap_room(count)?;
+    pair.lend_out(&vec![random.byte(); room]);
+    let answer = pair.tap_write(asked)?;
+    Ok((answer, pair.out()[..answer.max(0) as usize].to_vec()))
+}
+
+fn rooms(pair: &mut Pair, random: &mut Random) -> Result<(), Mismatch> {
+    let drawn: Vec<u16> = (0..20).map(|_| random.word() as u16).collect();
+    for count in (0..20).chain(drawn).chain([4095, 4096, 4097, 65534, 65535]) {
+        let room = pair.tap_room(count)?;
+        if room != 23 + 82 * usize::from(count) {
+            return Err(pair.mismatch("tap_room", format!("{room} for {count} ids")));
+        }
+    }
+    Ok(())
+}
+
+/// Every stored text, against what is expected of it.
+fn stored_texts(pair: &mut Pair, random: &mut Random) -> Result<(), Mismatch> {
+    let texts = corpus::texts(&corpus::texts_folder());
+    for sample in texts.map_err(|what| pair.mismatch("tap_read", what))? {
+        let ids = sample.count + random.below(5) as u16;
+        let shape = fresh(pair, random, ids)?;
+        let sheet = somewhere(random, ids, sample.count, CHAPTER);
+        let answer = read(pair, random, shape, sheet, &sample.text)?;
+        pair.tally.reach("tap_read, texts", "stored");
+        let same = match &sample.expected {
+            Outcome::Refused(number, line) => {
+                answer == -i32::from(*number) && pair.line() == [*line]
+            }
+            Outcome::Read(_) => answer == 0 && says(pair, random, shape, sheet.asked, &sample)?,
+        };
+        if !same {
+            let what = format!("answer {answer}, not as expected: {}", sample.name);
+            return Err(pair.mismatch("tap_read", what));
+        }
+    }
+    pair.lend_tree(&[]);
+    Ok(())
+}
+
+/// Whether what was read is what a text says that is written of it.
+fn says(
+    pair: &mut Pair,
+    random: &mut Random,
+    shape: Shape,
+    asked: Asked,
+    sample: &Sample,
+) -> Result<bool, Mismatch> {
+    let (_, text) = write(pair, random, shape, asked)?;
+    Ok(corpus::outcome(&text, sample.count) == sample.expected)
+}
+
+/// Every stored list of records, whose text is stored too.
+fn stored_records(pair: &mut Pair, random: &mut Random) -> Result<(), Mismatch> {
+    let lists = corpus::lists(&corpus::written_folder());
+    for list in lists.map_err(|what| pair.mismatch("tap_write", what))? {
+        let count = list.slots.len() as u16;
+        let ids = count + random.below(5) as u16;
+        let shape = fresh(pair, random, ids)?;
+        let Asked { first, end, .. } = somewhere(random, ids, count, CHAPTER).asked;
+        for (id, slot) in (first..end).zip(&list.slots) {
+            if let Some(record) = slot {
+                tap_kept::put(pair, random, shape, id, record)?;
+            }
+        }
+        let asked = Asked {
+            chapter: CHAPTER,
+            first,
+            end,
+        };
+        let (_, text) = write(pair, random, shape, asked)?;
+        let stored = corpus::bytes(&list.text).map_err(|what| pair.mismatch("tap_write", what))?;
+        if text != stored {
+            let what = format!("another text than the stored one: {}", list.name);
+            return Err(pair.mismatch("tap_write", what));
+        }
+        pair.tally.reach("tap_write, texts", "stored");
+    }
+    pair.lend_tree(&[]);
+    Ok(())
+}
+
+/// Drawn texts, good and damaged, into one store.
+fn drawn_texts(pair: &mut Pair, random: &mut Random) -> Result<(), Mismatch> {
+    let drawn = random.range(1, 40) as u16;
+    let ids = random.pick(&[1, 3, 12, drawn, drawn]);
+    let shape = fresh(pair, random, ids)?;
+    for _ in 0..30 {
+        let drawn = random.range(1, u64::from(ids)) as u16;
+        let count = random.pick(&[1, drawn, drawn, ids]);
+        let chapter = random.pick(&[0, 7, 7, 31, 31, 31, 32, 255]);
+        let mut sheet = somewhere(random, ids, count, chapter);
+        sheet.year = random.pick(&[YEAR, sheet.year]);
+        let Drawn { text, damage } = tap_texts::text(random, count);
+        let answer = read(pair, random, shape, sheet, &text)?;
+        pair.tally.reach("tap_read, texts", "drawn");
+        let group = match answer {
+            0 => "tap_read, taken in spite of",
+            _ => "tap_read, refused with",
+        };
+        if let Some(damage) = damage {
+            pair.tally.reach(group, damage);
+        }
+        if answer == 0 && random.once_in(4) {
+            write(pair, random, shape, sheet.asked)?;
+        }
+    }
+    pair.lend_tree(&[]);
+    Ok(())
+}
