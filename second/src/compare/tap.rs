@@ -17,15 +17,15 @@ pub fn history(pair: &mut Pair, random: &mut Random, number: u64) -> Result<(), 
         0 => return stored_texts(pair, random),
         1 => return stored_records(pair, random),
         2 => return rooms(pair, random),
-        3 => return tap_kept::wide(pair, random),
+        64 => return tap_kept::wide(pair, random),
         _ => {}
     }
     let turn = number / 32;
     match number % 32 {
-        0 if turn.is_multiple_of(2) => tap_arguments::bad_desks(pair, random, turn / 2),
-        1 | 2 => tap_kept::roomy(pair, random),
-        3 => tap_kept::tight(pair, random, turn),
-        4..=7 => drawn_texts(pair, random),
+        3 => tap_arguments::bad_desks(pair, random, turn),
+        4 | 5 => tap_kept::roomy(pair, random),
+        6 => tap_kept::tight(pair, random, turn),
+        7..=10 => drawn_texts(pair, random),
         _ => tap_arguments::history(pair, random, number),
     }
 }

@@ -200,7 +200,7 @@ pub fn tight(pair: &mut Pair, random: &mut Random, turn: u64) -> Result<(), Mism
         ids: random.range(2, 12) as u16,
     };
     let shape = server::formatted(pair, random, sizes)?;
-    for _ in 0..12 {
+    for _ in 0..30 {
         let count = random.range(1, u64::from(sizes.ids)) as u16;
         let sheet = somewhere(random, sizes.ids, count, 7);
         let (desk, tree) = (pair.desk().to_vec(), pair.tree().to_vec());

@@ -8,7 +8,7 @@ use second::format::Sizes;
 use second::found::Found;
 use second::good::is_good;
 use second::row::{Asked, Counts};
-use second::store::{Second, Store};
+use second::store::{Second, Sheet, Store};
 
 type Format = dyn Fn(&mut [u8], Sizes, &[u8], &[u16]) -> i32;
 type AskRead = dyn Fn(&mut [u8], u16, u16) -> i32;
@@ -21,6 +21,9 @@ type Digest = dyn Fn(&[u8], &mut [u8; 32]);
 type Cipher = dyn Fn(&[u8; 32], &[u8; 12], &mut [u8]);
 type VerdictRead = dyn Fn(&[u8], &mut [u16; 3]) -> i32;
 type VerdictMake = dyn Fn(&mut [u8], u8, u8, u16, &[u8]) -> i32;
+type TapRoom = dyn Fn(u16) -> usize;
+type TapRead = dyn Fn(&mut [u8], &mut [u8], Sheet, &[u16], &[u8], &mut [u64; 1]) -> i32;
+type TapWrite = dyn Fn(&mut [u8], &mut [u8], Asked, &[u16], &mut [u8]) -> i32;
 type Row = dyn Fn(&mut [u8], &mut [u8], Asked, &[u16], &mut Counts) -> i32;
 
 /// The second program with one entry or more exchanged.
@@ -37,6 +40,9 @@ pub struct Wrong {
     pub verdict_read: Box<VerdictRead>,
     pub verdict_make: Box<VerdictMake>,
     pub row: Box<Row>,
+    pub tap_room: Box<TapRoom>,
+    pub tap_read: Box<TapRead>,
+    pub tap_write: Box<TapWrite>,
 }
 
 impl Default for Wrong {
@@ -54,6 +60,9 @@ impl Default for Wrong {
             verdict_read: Box::new(|a, b| Second.verdict_read(a, b)),
             verdict_make: Box::new(|a, b, c, d, e| Second.verdict_make(a, b, c, d, e)),
             row: Box::new(|a, b, c, d, e| Second.row(a, b, c, d, e)),
+            tap_room: Box::new(|a| Second.tap_room(a)),
+            tap_read: Box::new(|a, b, c, d, e, f| Second.tap_read(a, b, c, d, e, f)),
+            tap_write: Box::new(|a, b, c, d, e| Second.tap_write(a, b, c, d, e)),
         }
     }
 }
@@ -114,6 +123,30 @@ impl Store for Wrong {
         counts: &mut Counts,
     ) -> i32 {
         (self.row)(desk, tree, asked, draws, counts)
+    }
+    fn tap_room(&self, count: u16) -> usize {
+        (self.tap_room)(count)
+    }
+    fn tap_read(
+        &self,
+        desk: &mut [u8],
+        tree: &mut [u8],
+        sheet: Sheet,
+        draws: &[u16],
+        text: &[u8],
+        line: &mut [u64; 1],
+    ) -> i32 {
+        (self.tap_read)(desk, tree, sheet, draws, text, line)
+    }
+    fn tap_write(
+        &self,
+        desk: &mut [u8],
+        tree: &mut [u8],
+        asked: Asked,
+        draws: &[u16],
+        out: &mut [u8],
+    ) -> i32 {
+        (self.tap_write)(desk, tree, asked, draws, out)
     }
 }
 
