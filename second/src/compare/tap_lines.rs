@@ -143,8 +143,8 @@ pub fn comment(random: &mut Random) -> Vec<u8> {
 
 /// A space and a description of some pieces, mostly behind a dash.
 fn described(random: &mut Random) -> Vec<u8> {
-    let mut all = random.pick(&[" - ", " - ", " - ", " ", "  -", "   "]);
-    let mut description = std::mem::take(&mut all).as_bytes().to_vec();
+    let front = random.pick(&[" - ", " - ", " - ", " ", "  -", "   "]);
+    let mut description = front.as_bytes().to_vec();
     for _ in 0..random.below(6) {
         description.extend(random.pick(PIECES));
     }
