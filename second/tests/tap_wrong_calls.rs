@@ -372,7 +372,8 @@ fn texts_written_wrongly() {
 
 #[test]
 fn rooms_that_are_wrong() {
-    let rooms: [(&str, fn(u16) -> usize); 3] = [
+    type Room = fn(u16) -> usize;
+    let rooms: [(&str, Room); 3] = [
         ("a room of 16 bits", |count| {
             usize::from(Second.tap_room(count) as u16)
         }),

@@ -173,7 +173,8 @@ fn read_back(
         .collect();
     let same = tests == lines;
     let plain = lines.iter().flatten().all(|(_, name)| is_plain(name));
-    if (plain && again != text) || (same && again != text) || (plain && !same) {
+    let expected = if same { again == text } else { !plain };
+    if !expected {
         let what = "another text after it was read back".into();
         return Err(pair.mismatch("tap_write", what));
     }

@@ -79,7 +79,7 @@ fn sheet(count: u16) -> Sheet {
 
 /// A record that stood there before a text was read.
 fn before(id: u16) -> Option<[u8; 64]> {
-    (id % 3 != 0).then(|| said(Verdict::Fail, YEAR - 1, b"before"))
+    (!id.is_multiple_of(3)).then(|| said(Verdict::Fail, YEAR - 1, b"before"))
 }
 
 fn said(verdict: Verdict, year: u16, name: &[u8]) -> [u8; 64] {

@@ -61,7 +61,7 @@ impl Reader {
                 break;
             }
             let taken = match place {
-                0 if !(self.makes(VersionOptional) && !self.is_version(line)) => self.first(line),
+                0 if !self.makes(VersionOptional) || self.is_version(line) => self.first(line),
                 _ => self.take(line),
             };
             if let Err(number) = taken {
