@@ -2,6 +2,7 @@
 
 use super::draw;
 use super::pair::{Mismatch, Pair};
+use super::tap_tally::WIDTHS;
 use super::tap_texts::{self, Drawn};
 use super::{server, tap_arguments, tap_kept};
 use crate::corpus::{self, Outcome, Sample, CHAPTER, YEAR};
@@ -18,6 +19,7 @@ pub fn history(pair: &mut Pair, random: &mut Random, number: u64) -> Result<(), 
         1 => return stored_records(pair, random),
         2 => return rooms(pair, random),
         64 => return tap_kept::wide(pair, random),
+        65 => return widths(pair, random),
         _ => {}
     }
     let turn = number / 32;
@@ -93,6 +95,35 @@ fn rooms(pair: &mut Pair, random: &mut Random) -> Result<(), Mismatch> {
         }
     }
     Ok(())
+}
+
+/// Ranges at which the numbers of plan and tests get longer.
+fn widths(pair: &mut Pair, random: &mut Random) -> Result<(), Mismatch> {
+    let edges = [1, 9, 10, 11, 99, 100, 101, 999, 1000, 1001];
+    for count in edges {
+        let shape = fresh(pair, random, count)?;
+        let sheet = somewhere(random, count, count, CHAPTER);
+        let mut text = format!("TAP version 13\n1..{count}\n");
+        write(pair, random, shape, sheet.asked)?;
+        for number in edges.iter().filter(|number| **number <= count) {
+            text += &format!("ok {number} - {number}\n");
+        }
+        let answer = read(pair, random, shape, sheet, text.as_bytes())?;
+        let (_, written) = write(pair, random, shape, sheet.asked)?;
+        if answer != 0 || written != text.as_bytes() {
+            let what = format!("another text of {count} ids than was read");
+            return Err(pair.mismatch("tap_write", what));
+        }
+        pair.tally
+            .reach("tap_write, numbers", WIDTHS[text_width(count)]);
+    }
+    pair.lend_tree(&[]);
+    Ok(())
+}
+
+/// How many digits a number has, less one.
+fn text_width(number: u16) -> usize {
+    number.to_string().len() - 1
 }
 
 /// Every stored text, against what is expected of it.

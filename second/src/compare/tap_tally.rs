@@ -33,6 +33,12 @@ pub const DAMAGES: [&str; 9] = [
     "a byte left out",
     "carriage returns before all line feeds",
 ];
+pub const WIDTHS: [&str; 4] = [
+    "of one digit",
+    "of two digits",
+    "of three digits",
+    "of four digits",
+];
 pub const KINDS: [&str; 5] = ["no line", "pass", "fail", "skipped", "error"];
 
 pub const EXPECTED: &[(&str, &[&str])] = &[
@@ -128,6 +134,7 @@ pub const EXPECTED: &[(&str, &[&str])] = &[
         "tap_write, taken with",
         &["one id", "4,096 ids", "a chapter above 31"],
     ),
+    ("tap_write, numbers", &WIDTHS),
     ("tap_write, texts", &["stored", "of drawn records"]),
     (
         "tap_write, read back",

@@ -44,6 +44,8 @@ impl Reader {
             Some(SkippedAsSkip) => false,
             Some(SkippedUnderscore) => byte.is_ascii_alphanumeric(),
             Some(SkippedDigit) => byte.is_ascii_alphabetic() || *byte == b'_',
+            Some(SlashGoesOn) => (b'/'..=b'{').contains(byte) || *byte == b'_',
+            Some(EdgesEnd) => byte.is_ascii_alphanumeric() && !b"09AZaz".contains(byte),
             Some(HighBytesGoOn) => byte.is_ascii_alphanumeric() || *byte == b'_' || *byte > 127,
             Some(ColonGoesOn) => *byte != b' ',
             _ => byte.is_ascii_alphanumeric() || *byte == b'_',

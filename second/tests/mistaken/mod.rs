@@ -48,6 +48,8 @@ second::named! {
         SkippedAsSkip = "SKIPPED taken for SKIP",
         SkippedUnderscore = "a word that ends before _",
         SkippedDigit = "a word that ends before a digit",
+        SlashGoesOn = "a word goes on with what stands beside letters and digits",
+        EdgesEnd = "a word ends before the first or last letter or digit",
         HighBytesGoOn = "a word goes on with a high byte",
         ColonGoesOn = "a word has to end with a space",
         CaseMatters = "directives in capitals alone",
