@@ -21,6 +21,7 @@ mod tap_arguments;
 mod tap_calls;
 mod tap_kept;
 mod tap_lines;
+mod tap_stored;
 mod tap_tally;
 mod tap_texts;
 mod verdicts;

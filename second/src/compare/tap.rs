@@ -4,8 +4,8 @@ use super::draw;
 use super::pair::{Mismatch, Pair};
 use super::tap_tally::WIDTHS;
 use super::tap_texts::{self, Drawn};
-use super::{server, tap_arguments, tap_kept};
-use crate::corpus::{self, Outcome, Sample, CHAPTER, YEAR};
+use super::{server, tap_arguments, tap_kept, tap_stored};
+use crate::corpus::{CHAPTER, YEAR};
 use crate::format::Sizes;
 use crate::random::Random;
 use crate::row::Asked;
@@ -15,11 +15,12 @@ use crate::store::Sheet;
 /// The stored files come first, and then the sorts of histories take turns.
 pub fn history(pair: &mut Pair, random: &mut Random, number: u64) -> Result<(), Mismatch> {
     match number {
-        0 => return stored_texts(pair, random),
-        1 => return stored_records(pair, random),
+        0 => return tap_stored::texts(pair, random),
+        1 => return tap_stored::records(pair, random),
         2 => return rooms(pair, random),
         64 => return tap_kept::wide(pair, random),
         65 => return widths(pair, random),
+        66 => return lengths(pair, random),
         _ => {}
     }
     let turn = number / 32;
@@ -108,12 +109,7 @@ fn widths(pair: &mut Pair, random: &mut Random) -> Result<(), Mismatch> {
         for number in edges.iter().filter(|number| **number <= count) {
             text += &format!("ok {number} - {number}\n");
         }
-        let answer = read(pair, random, shape, sheet, text.as_bytes())?;
-        let (_, written) = write(pair, random, shape, sheet.asked)?;
-        if answer != 0 || written != text.as_bytes() {
-            let what = format!("another text of {count} ids than was read");
-            return Err(pair.mismatch("tap_write", what));
-        }
+        both_ways(pair, random, shape, sheet, text.as_bytes())?;
         pair.tally
             .reach("tap_write, numbers", WIDTHS[text_width(count)]);
     }
@@ -121,75 +117,48 @@ fn widths(pair: &mut Pair, random: &mut Random) -> Result<(), Mismatch> {
     Ok(())
 }
 
-/// How many digits a number has, less one.
-fn text_width(number: u16) -> usize {
-    number.to_string().len() - 1
-}
-
-/// Every stored text, against what is expected of it.
-fn stored_texts(pair: &mut Pair, random: &mut Random) -> Result<(), Mismatch> {
-    let texts = corpus::texts(&corpus::texts_folder());
-    for sample in texts.map_err(|what| pair.mismatch("tap_read", what))? {
-        let ids = sample.count + random.below(5) as u16;
-        let shape = fresh(pair, random, ids)?;
-        let sheet = somewhere(random, ids, sample.count, CHAPTER);
-        let answer = read(pair, random, shape, sheet, &sample.text)?;
-        pair.tally.reach("tap_read, texts", "stored");
-        let same = match &sample.expected {
-            Outcome::Refused(number, line) => {
-                answer == -i32::from(*number) && pair.line() == [*line]
-            }
-            Outcome::Read(_) => answer == 0 && says(pair, random, shape, sheet.asked, &sample)?,
-        };
-        if !same {
-            let what = format!("answer {answer}, not as expected: {}", sample.name);
-            return Err(pair.mismatch("tap_read", what));
+/// Names of every length, with every kind.
+fn lengths(pair: &mut Pair, random: &mut Random) -> Result<(), Mismatch> {
+    for turn in 0..4 {
+        let mut text = String::from("TAP version 13\n1..61\n");
+        for length in 0..61 {
+            let (front, end) = [
+                ("ok", ""),
+                ("not ok", ""),
+                ("ok", " # SKIP"),
+                ("not ok", " # TODO"),
+            ][(length + turn) % 4];
+            let name = "n".repeat(length);
+            text += &format!("{front} {} - {name}{end}\n", length + 1);
         }
+        let shape = fresh(pair, random, 61)?;
+        let sheet = somewhere(random, 61, 61, CHAPTER);
+        both_ways(pair, random, shape, sheet, text.as_bytes())?;
     }
     pair.lend_tree(&[]);
     Ok(())
 }
 
-/// Whether what was read is what a text says that is written of it.
-fn says(
+/// Reads a text, which is then written as it was.
+fn both_ways(
     pair: &mut Pair,
     random: &mut Random,
     shape: Shape,
-    asked: Asked,
-    sample: &Sample,
-) -> Result<bool, Mismatch> {
-    let (_, text) = write(pair, random, shape, asked)?;
-    Ok(corpus::outcome(&text, sample.count) == sample.expected)
+    sheet: Sheet,
+    text: &[u8],
+) -> Result<(), Mismatch> {
+    let answer = read(pair, random, shape, sheet, text)?;
+    let (_, written) = write(pair, random, shape, sheet.asked)?;
+    if answer == 0 && written == text {
+        return Ok(());
+    }
+    let what = format!("answer {answer}, or another text than was read");
+    Err(pair.mismatch("tap_write", what))
 }
 
-/// Every stored list of records, whose text is stored too.
-fn stored_records(pair: &mut Pair, random: &mut Random) -> Result<(), Mismatch> {
-    let lists = corpus::lists(&corpus::written_folder());
-    for list in lists.map_err(|what| pair.mismatch("tap_write", what))? {
-        let count = list.slots.len() as u16;
-        let ids = count + random.below(5) as u16;
-        let shape = fresh(pair, random, ids)?;
-        let Asked { first, end, .. } = somewhere(random, ids, count, CHAPTER).asked;
-        for (id, slot) in (first..end).zip(&list.slots) {
-            if let Some(record) = slot {
-                tap_kept::put(pair, random, shape, id, record)?;
-            }
-        }
-        let asked = Asked {
-            chapter: CHAPTER,
-            first,
-            end,
-        };
-        let (_, text) = write(pair, random, shape, asked)?;
-        let stored = corpus::bytes(&list.text).map_err(|what| pair.mismatch("tap_write", what))?;
-        if text != stored {
-            let what = format!("another text than the stored one: {}", list.name);
-            return Err(pair.mismatch("tap_write", what));
-        }
-        pair.tally.reach("tap_write, texts", "stored");
-    }
-    pair.lend_tree(&[]);
-    Ok(())
+/// How many digits a number has, less one.
+fn text_width(number: u16) -> usize {
+    number.to_string().len() - 1
 }
 
 /// Drawn texts, good and damaged, into one store.
