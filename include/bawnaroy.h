@@ -9,8 +9,8 @@
  *     answer = bawnaroy_finish(desk, path, ..);  trusted side: checks the path whole, answers, rewrites it
  *     bawnaroy_put(tree, .., leaf, path, ..);    server: copies the path back
  *
- * Above the store lies the verdict book: records that hold a verdict, and rows that read a range of them through the
- * store and add them up.
+ * Above the store lies the verdict book: records that hold a verdict, rows that read a range of them through the store
+ * and add them up, and texts of the Test Anything Protocol (TAP) that are read into a range or say one.
  *
  * Every function takes all inputs: forged desks and paths, any numbers, any lengths. A buffer is a pointer and a
  * length in elements; with a length of 0 any pointer will do. Buffers of one call must not overlap. No function
@@ -32,8 +32,8 @@ extern "C" {
 /*
  * Refusals: what each function answers instead, negative. The first that applies is given, in the order that the
  * function names. A refusal changes no byte of any buffer; FORGED, WORN and FULL change one byte of the desk, its
- * status, and from then on the desk answers STOPPED. bawnaroy_row alone is many calls in one: where one of them is
- * refused, this holds of that call, and what the calls before it did stays.
+ * status, and from then on the desk answers STOPPED. bawnaroy_row, bawnaroy_tap_read and bawnaroy_tap_write are many
+ * calls in one: where one of them is refused, this holds of that call, and what the calls before it did stays.
  */
 #define BAWNAROY_BAD_DESK (-1)   /* not a good desk */
 #define BAWNAROY_STOPPED (-2)    /* the desk stopped as forged, worn or full */
@@ -46,6 +46,8 @@ extern "C" {
 #define BAWNAROY_FORGED (-9)     /* the path fails a check */
 #define BAWNAROY_WORN (-10)      /* an item's counter is at its end */
 #define BAWNAROY_FULL (-11)      /* more blocks remain than the stash has room for */
+#define BAWNAROY_MALFORMED (-12) /* a line of the text can't be read; line says which */
+#define BAWNAROY_BAD_PLAN (-13)  /* the plan is not the range's, or a number is outside it or repeated; line too */
 
 /* What finish answers. 0 is none of them, so that memory nobody wrote is never a verdict. */
 #define BAWNAROY_RECORD 1 /* the id's record, in the record buffer */
@@ -149,6 +151,62 @@ int32_t bawnaroy_verdict_make(uint8_t *record, size_t record_len, uint8_t verdic
  */
 int32_t bawnaroy_row(uint8_t *desk, size_t desk_len, uint8_t *tree, size_t tree_len, uint8_t chapter, uint16_t first,
                      uint16_t end, const uint16_t *draws, size_t draws_len, uint16_t counts[BAWNAROY_COUNTS]);
+
+/*
+ * Texts of TAP, version 13, for a range of ids: number k of a text is the id first + k - 1.
+ *
+ * A line ends at a line feed, which the last may lack; a carriage return is a byte like any other. The lines are
+ *
+ *     TAP version 13              exactly, the first line and no other
+ *     1..n                        the plan, once, before or after the tests; behind it nothing but spaces
+ *     ok 3 - name                 a test: ok or not ok, a space, its number; then, if there is more, a space and a
+ *     not ok 4 - name # TODO why  description of at most 60 bytes, none of them zero
+ *     # anything                  a comment, passed over
+ *
+ * and nothing else: no blank lines, YAML, bail-outs, pragmas, or tests without a number. Spaces around a description
+ * and one hyphen before it, with the spaces after that, are no part of it. It ends at the first # that is followed by
+ * optional spaces and the word SKIP or TODO in any case; what follows the word is dropped, and any other # belongs to
+ * the description. With SKIP a test is skipped, with TODO an error, else ok is a pass and not ok a fail. Numbers are
+ * decimal, with or without zeros in front.
+ */
+
+/* The room in bytes for the text of n ids: 23 + 82 n. */
+size_t bawnaroy_tap_room(uint16_t n);
+
+/*
+ * Reads a text into the ids from first up to, not including, end: one whole request for each id, rising, with the next
+ * of the draws, a write where the text has the id's number and a read where it has not; such an id stays as it was. No
+ * request comes before the whole text is read. Answers 0.
+ *
+ * Refusals before any ask, which change nothing: BAD_DESK; BAD_ID and BAD_LENGTH (draws, tree) as in a row; then those
+ * of the text, and line[0] is the number of the line, counted from 1. MALFORMED: the line is none of those above; a
+ * second plan; a test in a chapter above 31, which no record holds; a text without a plan, at the line past its end.
+ * BAD_PLAN: the plan's n is not end - first, or a number is not 1 to that or comes a second time. The earlier line
+ * decides, and of one line MALFORMED. Then the refusals of the requests end it, as they end a row, and what was done
+ * before stays. line is as it was after every other answer.
+ *
+ * Needs about 350 KB of stack.
+ */
+int32_t bawnaroy_tap_read(uint8_t *desk, size_t desk_len, uint8_t *tree, size_t tree_len, uint8_t chapter,
+                          uint16_t year, uint16_t first, uint16_t end, const uint16_t *draws, size_t draws_len,
+                          const uint8_t *text, size_t text_len, uint64_t line[1]);
+
+/*
+ * Writes the text that says a chapter's verdicts of the ids from first up to, not including, end, each read by one
+ * whole request, rising, with the next of the draws. out has exactly bawnaroy_tap_room(end - first) bytes. Answers the
+ * length of the text, which stands at the front of out; the rest of out is as it was. The text has the version, the
+ * plan, and a line for each id with a verdict of that chapter: ok or not ok, its number, " - ", the name; skipped is
+ * ok with " # SKIP" behind the name, an error not ok with " # TODO". An id that was never written, a bad record, one of
+ * another chapter and one with a line feed in its name have no line. Every line ends in a line feed.
+ *
+ * Refusals before any ask, which change nothing: BAD_DESK; BAD_ID, BAD_LENGTH (draws, tree) as in a row, then
+ * BAD_LENGTH (out). Then those of the requests end it, as they end a row. After every refusal out is as it was.
+ *
+ * Needs about 350 KB of stack.
+ */
+int32_t bawnaroy_tap_write(uint8_t *desk, size_t desk_len, uint8_t *tree, size_t tree_len, uint8_t chapter,
+                           uint16_t first, uint16_t end, const uint16_t *draws, size_t draws_len, uint8_t *out,
+                           size_t out_len);
 
 /* SHA-256 of msg (FIPS 180-4), and text combined with the ChaCha20 keystream from block 0 on (RFC 8439), in place. */
 void bawnaroy_sha256(const uint8_t *msg, size_t len, uint8_t out[32]);
