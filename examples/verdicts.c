@@ -1,6 +1,7 @@
 /*
  * A small verdict book from C: two cases get a verdict, three are looked up, and the one that nobody wrote answers
- * never. Then rows of the matrix: a case that was not run leaves its row incomplete, whatever the others say.
+ * never. Then rows of the matrix: a case that was not run leaves its row incomplete, whatever the others say. Then a
+ * text of the Test Anything Protocol (TAP) is read into the book, one is refused, and what the book holds is written.
  *
  * The draws are fixed so that the output can be compared. A real host draws each leaf afresh and unpredictably.
  */
@@ -97,6 +98,33 @@ static void print_row(uint8_t chapter, uint16_t first, uint16_t end, const uint1
            answer == BAWNAROY_COMPLETE ? "complete" : "incomplete");
 }
 
+/* Reads a text of TAP for all cases: those that it has no line for stay as they were. */
+static void read_text(const char *text, const uint16_t *draws)
+{
+    uint64_t line[1] = {0};
+    int32_t code = bawnaroy_tap_read(desk, desk_length, tree, tree_length, CHAPTER, YEAR, 1, IDS + 1, draws, IDS,
+                                     (const uint8_t *)text, strlen(text), line);
+    if (code == BAWNAROY_MALFORMED || code == BAWNAROY_BAD_PLAN)
+        printf("text: refused %d at line %d\n", -code, (int)line[0]);
+    else if (code < 0)
+        refused("text", code);
+    else
+        printf("text: read\n");
+}
+
+/* Writes the text that says the chapter's verdicts of all cases. */
+static void print_text(const uint16_t *draws)
+{
+    size_t room = bawnaroy_tap_room(IDS);
+    uint8_t *text = lent(room);
+    int32_t length =
+        bawnaroy_tap_write(desk, desk_length, tree, tree_length, CHAPTER, 1, IDS + 1, draws, IDS, text, room);
+    if (length < 0)
+        refused("text", length);
+    fwrite(text, 1, (size_t)length, stdout);
+    free(text);
+}
+
 int main(void)
 {
     uint8_t key[32];
@@ -121,6 +149,9 @@ int main(void)
     print_row(CHAPTER, 1, 4, draws);
     print_row(CHAPTER, 1, 2, draws);
     print_row(CHAPTER + 1, 1, 4, draws);
+    read_text("TAP version 13\n1..3\nok 1 - open then close\nnot ok 3 - locks # TODO slow server\n", draws);
+    read_text("TAP version 13\n1..3\nok 2 - timeout\nok 2 - timeout\n", draws);
+    print_text(draws);
     /* A byte altered on the server is noticed, and the store stops. */
     tree[9] ^= 1;
     int32_t leaf = bawnaroy_ask_read(desk, desk_length, 1, 0);

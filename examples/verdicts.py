@@ -1,5 +1,6 @@
 """A small verdict book from Python by ctypes: two cases get a verdict, three are looked up, and the one that nobody wrote answers never.
 Then rows of the matrix: a case that was not run leaves its row incomplete, whatever the others say.
+Then a text of the Test Anything Protocol (TAP) is read into the book, one is refused, and what the book holds is written.
 
 Usage: verdicts.py LIBRARY, a shared library made of libexports.a.
 The draws are fixed so that the output can be compared. A real host draws each leaf afresh and unpredictably.
@@ -12,6 +13,7 @@ HEIGHT, SLOTS, STASH, IDS = 2, 1, 4, 3
 CHAPTER, YEAR = 7, 2026
 RECORD_LENGTH = 64
 RECORD, NEVER, DONE, FORGED = 1, 2, 3, -9
+MALFORMED, BAD_PLAN = -12, -13
 PASS, FAIL = 1, 2
 VERDICTS = "bad", "pass", "fail", "skipped", "error"
 COUNTS = "passed", "failed", "skipped", "errors", "bad", "not run"
@@ -23,8 +25,8 @@ class Store:
 
     def __init__(self, library, key, starts):
         self.c = ctypes.CDLL(library)
-        for name in ("desk", "path", "tree"):
-            getattr(self.c, f"bawnaroy_{name}_length").restype = ctypes.c_size_t
+        for name in ("desk_length", "path_length", "tree_length", "tap_room"):
+            getattr(self.c, f"bawnaroy_{name}").restype = ctypes.c_size_t
         self.desk = self.lent(self.c.bawnaroy_desk_length(IDS, STASH))
         self.tree = self.lent(self.c.bawnaroy_tree_length(HEIGHT, SLOTS))
         self.path = self.lent(self.c.bawnaroy_path_length(HEIGHT, SLOTS))
@@ -85,6 +87,27 @@ class Store:
             drawn, ctypes.c_size_t(len(draws)), counts))
         return answer == COMPLETE, list(counts)
 
+    def read_text(self, text, draws):
+        """Reads a text of TAP for all cases: those that it has no line for stay as they were."""
+        line = (ctypes.c_uint64 * 1)()
+        drawn = (ctypes.c_uint16 * len(draws))(*draws)
+        code = self.c.bawnaroy_tap_read(
+            *self.whole(self.desk), *self.whole(self.tree), CHAPTER, YEAR, 1, IDS + 1,
+            drawn, ctypes.c_size_t(len(draws)), text.encode(), ctypes.c_size_t(len(text.encode())), line)
+        if code in (MALFORMED, BAD_PLAN):
+            return f"refused {-code} at line {line[0]}"
+        self.taken("text", code)
+        return "read"
+
+    def text(self, draws):
+        """The text that says the chapter's verdicts of all cases."""
+        out = self.lent(self.c.bawnaroy_tap_room(IDS))
+        drawn = (ctypes.c_uint16 * len(draws))(*draws)
+        length = self.taken("text", self.c.bawnaroy_tap_write(
+            *self.whole(self.desk), *self.whole(self.tree), CHAPTER, 1, IDS + 1,
+            drawn, ctypes.c_size_t(len(draws)), *self.whole(out)))
+        return out.raw[:length].decode()
+
 
 def main():
     store = Store(sys.argv[1], bytes(range(32)), (3, 0, 1))
@@ -99,6 +122,9 @@ def main():
         complete, counts = store.row(chapter, first, end, draws[:end - first])
         columns = ", ".join(f"{name} {count}" for name, count in zip(COUNTS, counts))
         print(f"chapter {chapter}, cases {first} to {end - 1}: {columns}: {'complete' if complete else 'incomplete'}")
+    for lines in (("ok 1 - open then close", "not ok 3 - locks # TODO slow server"), ("ok 2 - timeout", "ok 2 - timeout")):
+        print("text:", store.read_text("\n".join(("TAP version 13", "1..3", *lines, "")), draws))
+    print(store.text(draws), end="")
     # A byte altered on the server is noticed, and the store stops.
     store.tree[9] = bytes([store.tree.raw[9] ^ 1])
     if store.read(1, 0)[0] == FORGED:

@@ -180,6 +180,11 @@ static const char *other_fault(struct line line)
         return "a pragma is not taken";
     if (begins_any(line, "tap version"))
         return "the version comes once, in the first line";
+    struct line dots = line;
+    while (dots.length > 0 && is_digit(dots.at[0]))
+        dots = after(dots, 1);
+    if (dots.length < line.length && begins(dots, "."))
+        return "the plan is written 1..n";
     bool test = begins_any(line, "ok") || begins_any(line, "not ok");
     struct line rest = test ? after(line, small(line.at[0]) == 'o' ? 2 : 6) : line;
     if (test && rest.length == 0)
@@ -235,9 +240,9 @@ static void first_line_fault(struct line line, char words[WORDS])
     if (begins(line, VERSION) && line.length > length && line.at[length] == '\r')
         snprintf(words, WORDS, "%s", RETURN);
     else if (begins(line, "\xEF\xBB\xBF"))
-        snprintf(words, WORDS, "the text begins with a byte order mark; the first line must be '%s'", VERSION);
+        snprintf(words, WORDS, "the text begins with a byte order mark; the first line must be exactly '%s'", VERSION);
     else
-        snprintf(words, WORDS, "the first line must be '%s'", VERSION);
+        snprintf(words, WORDS, "the first line must be exactly '%s'", VERSION);
 }
 
 /* A line that would be good without the carriage return at its end, or would be blank. */
@@ -255,7 +260,7 @@ void why_malformed(struct bytes text, uint64_t number, char words[WORDS])
     struct line line;
     if (!line_at(text, number, &line)) {
         if (text.length == 0)
-            snprintf(words, WORDS, "the text is empty; the first line must be '%s'", VERSION);
+            snprintf(words, WORDS, "the text is empty; the first line must be exactly '%s'", VERSION);
         else
             snprintf(words, WORDS, "the text ends without a plan");
     } else if (number == 1) {
