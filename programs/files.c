@@ -32,7 +32,7 @@ uint8_t *lent(size_t length)
     return bytes;
 }
 
-static struct bytes rest_of(int file, const char *name)
+struct bytes rest_of(int file, const char *name)
 {
     size_t room = 65536;
     struct bytes all = {lent(room), 0};

@@ -32,8 +32,9 @@ uint8_t *lent(size_t length);
 /* Whether a file is standard input or output: it has no name, or the name -. */
 bool is_standard(const char *name);
 
-/* A whole file. */
+/* A whole file, and what is left of one that is open. */
 struct bytes whole_file(const char *name);
+struct bytes rest_of(int file, const char *name);
 
 /* Bytes that nobody can predict, from the system. */
 void unpredictable(uint8_t *bytes, size_t length);

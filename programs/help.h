@@ -7,7 +7,7 @@ static const char HELP[] =
     "\n"
     "Keeps test verdicts in a store on disk and exchanges them as texts of the Test Anything Protocol,\n"
     "version 13. STORE is a folder with two files: desk, which is trusted and holds the key, and tree,\n"
-    "which may lie where anybody reads it.\n"
+    "which anybody may read.\n"
     "\n"
     "  new      makes a store of N ids, 1 to 4096, in a new folder\n"
     "  read     reads a text from FILE or standard input into the ids F to L: test number 1 of the text\n"

@@ -76,12 +76,17 @@ static void end_save(const struct store *store)
     without(store, "tree.part");
 }
 
-static struct bytes loaded(const struct store *store, const char *file)
+/* A file of the folder. A link is none: saving would put a file in its place. */
+static struct bytes loaded(const struct store *store, const char *name)
 {
-    size_t length = strlen(store->name) + 1 + strlen(file) + 1;
+    size_t length = strlen(store->name) + 1 + strlen(name) + 1;
     char *path = (char *)lent(length);
-    snprintf(path, length, "%s/%s", store->name, file);
-    struct bytes all = whole_file(path);
+    snprintf(path, length, "%s/%s", store->name, name);
+    int file = openat(store->folder, name, O_RDONLY | O_NOFOLLOW);
+    if (file < 0)
+        ended(TROUBLE, "%s: %s", path, errno == ELOOP ? "is a link, and no file of this folder" : strerror(errno));
+    struct bytes all = rest_of(file, path);
+    close(file);
     free(path);
     return all;
 }
@@ -118,12 +123,13 @@ static bool put(const struct store *store, const char *file, const char *old, mo
         else
             good = took < 0 && errno == EINTR;
     }
-    good = good && fsync(made) == 0;
-    int reason = errno;
-    good = close(made) == 0 && good;
-    if (!good && reason != 0)
+    if (!good || fsync(made) != 0) {
+        int reason = errno;
+        close(made);
         errno = reason;
-    return good;
+        return false;
+    }
+    return close(made) == 0;
 }
 
 /* A change that can't be made leaves the folder as it was. What can't be removed stays for the next run. */
@@ -150,7 +156,6 @@ static bool counted(const struct store *store)
 
 static void change(const struct store *store, const char *made)
 {
-    errno = 0;
     if (!counted(store)) {
         int reason = errno;
         undo(store);
