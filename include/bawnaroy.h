@@ -165,9 +165,9 @@ int32_t bawnaroy_row(uint8_t *desk, size_t desk_len, uint8_t *tree, size_t tree_
  *
  * and nothing else: no blank lines, YAML, bail-outs, pragmas, or tests without a number. Spaces around a description
  * and one hyphen before it, with the spaces after that, are no part of it. It ends at the first # that is followed by
- * optional spaces and the word SKIP or TODO in any case; what follows the word is dropped, and any other # belongs to
- * the description. With SKIP a test is skipped, with TODO an error, else ok is a pass and not ok a fail. Numbers are
- * decimal, with or without zeros in front.
+ * optional spaces and the word SKIP or TODO, in any case and with no letter, digit or _ behind it; what follows the
+ * word is dropped, and any other # belongs to the description. With SKIP a test is skipped, with TODO an error, else ok
+ * is a pass and not ok a fail. Numbers are decimal, with or without zeros in front.
  */
 
 /* The room in bytes for the text of n ids: 23 + 82 n. */
