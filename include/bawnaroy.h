@@ -185,7 +185,7 @@ size_t bawnaroy_tap_room(uint16_t n);
  * decides, and of one line MALFORMED. Then the refusals of the requests end it, as they end a row, and what was done
  * before stays. line is as it was after every other answer.
  *
- * Needs about 350 KB of stack.
+ * Needs about 314,000 bytes of stack.
  */
 int32_t bawnaroy_tap_read(uint8_t *desk, size_t desk_len, uint8_t *tree, size_t tree_len, uint8_t chapter,
                           uint16_t year, uint16_t first, uint16_t end, const uint16_t *draws, size_t draws_len,
@@ -202,7 +202,7 @@ int32_t bawnaroy_tap_read(uint8_t *desk, size_t desk_len, uint8_t *tree, size_t 
  * Refusals before any ask, which change nothing: BAD_DESK; BAD_ID, BAD_LENGTH (draws, tree) as in a row, then
  * BAD_LENGTH (out). Then those of the requests end it, as they end a row. After every refusal out is as it was.
  *
- * Needs about 350 KB of stack.
+ * Needs about 314,000 bytes of stack.
  */
 int32_t bawnaroy_tap_write(uint8_t *desk, size_t desk_len, uint8_t *tree, size_t tree_len, uint8_t chapter,
                            uint16_t first, uint16_t end, const uint16_t *draws, size_t draws_len, uint8_t *out,
