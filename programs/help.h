@@ -1,4 +1,4 @@
-/* What `tap --help` prints. The command at the root takes it from here too: each line in its own quotes, and no others. */
+/* What `tap --help` prints. The command at the root takes it from here too: each line in its own quotes, no others. */
 static const char HELP[] =
     "usage: ./tap new STORE --ids N [--height L] [--slots Z] [--stash S] [--draws FILE] [--key FILE]\n"
     "       ./tap read STORE --chapter C --year Y --ids F-L [--draws FILE] [FILE]\n"

@@ -185,8 +185,8 @@ static _Noreturn void stopped(const struct store *store, int32_t code, struct ra
         snprintf(before, sizeof before, "ids %u-%u stay as they were stored", range.first, id - 1);
     else
         snprintf(before, sizeof before, "%s", undone(command));
-    ended(REFUSED, "%s: refused %d %s at id %u: %s; %s, and the store has stopped", store->name, -code, names[-code], id,
-          whys[-code - 9], before);
+    ended(REFUSED, "%s: refused %d %s at id %u: %s; %s, and the store has stopped", store->name, -code, names[-code],
+          id, whys[-code - 9], before);
 }
 
 /* The library's answer, said and followed. The store is saved where a refusal has changed it. */
@@ -292,8 +292,8 @@ static void text_read(const struct request *request)
     struct bytes text = whole_file(request->file);
     uint16_t *draws = loaded(&store, request, range);
     int32_t code = bawnaroy_tap_read(store.desk.at, store.desk.length, store.tree.at, store.tree.length,
-                                     (uint8_t)chapter, (uint16_t)year, (uint16_t)range.first, (uint16_t)(range.last + 1),
-                                     draws, range.ids, text.at, text.length, line);
+                                     (uint8_t)chapter, (uint16_t)year, (uint16_t)range.first,
+                                     (uint16_t)(range.last + 1), draws, range.ids, text.at, text.length, line);
     if (code == BAWNAROY_MALFORMED || code == BAWNAROY_BAD_PLAN) {
         if (code == BAWNAROY_MALFORMED)
             why_malformed(text, line[0], words);
