@@ -321,6 +321,12 @@ static void text_write(const struct request *request)
     followed(&store, code, range, WRITE);
     text.length = (size_t)code;
     hand_out(&store, request->file, text);
+    unsigned hidden = hidden_directives(text);
+    if (hidden > 0)
+        fprintf(stderr,
+                "tap: %s: %u line%s with '#' in the name before SKIP or TODO; TAP::Parser and prove take %s for a plain "
+                "result\n",
+                store.name, hidden, plural(hidden), hidden == 1 ? "it" : "them");
 }
 
 static void row_count(const struct request *request)

@@ -309,3 +309,22 @@ void why_bad_plan(struct bytes text, uint64_t number, unsigned first, unsigned l
     else
         snprintf(words, WORDS, "the plan is 1..%u, and numbers are 1 to %u, each once", ids, ids);
 }
+
+/* ---- a text that was written */
+
+unsigned hidden_directives(struct bytes text)
+{
+    static const char *const directives[] = {" # SKIP", " # TODO"};
+    const size_t length = 7;
+    struct line line;
+    unsigned count = 0;
+    while (next_line(&text, &line)) {
+        if (line.length < length)
+            continue;
+        const uint8_t *last = line.at + line.length - length;
+        const uint8_t *first = memchr(line.at, '#', line.length);
+        for (int i = 0; i < 2; i++)
+            count += first && first <= last && memcmp(last, directives[i], length) == 0;
+    }
+    return count;
+}

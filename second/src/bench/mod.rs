@@ -4,6 +4,7 @@ mod openssl;
 mod requests;
 mod rows;
 mod speed;
+mod texts;
 
 use crate::store::Store;
 use std::time::{Duration, Instant};
@@ -19,6 +20,7 @@ pub fn run(sides: &[Side]) {
     speed::run(sides);
     requests::run(sides);
     rows::run(sides);
+    texts::run(sides);
 }
 
 /// How long `work` takes.
