@@ -324,8 +324,8 @@ static void text_write(const struct request *request)
     unsigned hidden = hidden_directives(text);
     if (hidden > 0)
         fprintf(stderr,
-                "tap: %s: %u line%s with '#' in the name before SKIP or TODO; TAP::Parser and prove take %s for a plain "
-                "result\n",
+                "tap: %s: %u line%s with '#' in the name before SKIP or TODO; TAP::Parser and prove take %s for a "
+                "plain result\n",
                 store.name, hidden, plural(hidden), hidden == 1 ? "it" : "them");
 }
 
