@@ -4,13 +4,14 @@ use mathlib.Core.Path.{_≡_, refl, sym, ap, ap₂, subst, _∙_}
 use mathlib.Core.Logic.{_≢_, _⊎_, inl, inr, ⊎-elim}
 use mathlib.Core.Bool.{Bool, true, false, cond}
 use mathlib.Core.Option.{Option, none, some}
-use mathlib.Core.List.{List}
+use mathlib.Core.List.{List, []}
 use native.Mathlib.Omega.{arith}
 use lib.ListN.{length, take}
 use Rattle.words.specs.Bytes.{zeros}
 use Rattle.words.proofs.Tests.{byCases}
 use Rattle.words.proofs.Splice.{part-splice}
-use Rattle.sizes.specs.Sizes.{recordLen}
+use Rattle.sizes.specs.declared.Outcome.the-variants.{Done}
+use Rattle.sizes.specs.Sizes.{recordLen, treeLen}
 use Rattle.slots.specs.Slots.{Bytes}
 use Rattle.items.specs.Real.{real}
 use Rattle.keeping.specs.Table.{Table}
@@ -29,11 +30,12 @@ use Rattle.tap.specs.declared.Taken.the-variants as taken
 use Rattle.tap.specs.Tap.{ReadResult}
 use Rattle.returning.specs.Returning.{readingSaid, isSaid, Plain, back, WasPass}
 use Rattle.returning.proofs.Returns.{returning}
-use Rattle.promises.specs.Stores.{ours, Start}
+use Rattle.promises.specs.Stores.{ours, Start, formatFor}
+use Rattle.promises.specs.Steps.{begin}
 use Rattle.promises.specs.Trees.{TreeState, TreeReached}
 use Rattle.promises.specs.Rows.{PassHeld}
 use Rattle.promises.specs.Taps.{entryOr, tableAfter, entryHeld, tableSheet, tapRead, sheetOf, Leaves}
-use Rattle.promises.specs.Carried.{Comes, CarriedTo, Out, textIn, Carried}
+use Rattle.promises.specs.Carried.{Comes, ComesFresh, CarriedTo, Out, textIn, Carried}
 use Rattle.promises.proofs.HonestRequests.{held-long}
 use Rattle.promises.proofs.AnyTaps.{good-answer, row-checked, was-written}
 use Rattle.promises.proofs.TableSheets.{after-in, after-below, after-above, table-entry}
@@ -193,9 +195,42 @@ module _ (b : Start) (ts : TreeState) (chapter first end : ℕ) (o : Out b ts ch
               table-is = λ id. subst (CarriedTo chapter year first n first′ table table′ id) (sym (w .table-is id ∙ after-is id)) (carried-to id);
             }
 
+-- ---- into a fresh store, which holds nothing
+
+fresh-comes : (chapter year : ℕ) (held after : Option (List ℕ)) → Comes chapter year held none after → ComesFresh chapter held after
+fresh-comes chapter year held after c =
+    record {
+      never = c .never;
+      passed =
+          λ p. ⊎-elim (λ (h : PassHeld chapter held). h) (λ (e : after ≡ none). absurd (let n : none ≡ some (p .bytes) = sym e ∙ p .held-is in let z : _≡_ {A = ℕ} 0 1 = cc in omega arith))
+          (c .only-passes p);
+    }
+
+module _ (b : Start) (ts : TreeState) (chapter first end : ℕ) (o : Out b ts chapter first end) (b′ : Start) (byte : b′ .room < 256)
+    (lent : List ℕ) (formats : formatFor b′ lent .answer ≡ Done) (tree : List ℕ) (size : length tree ≡ treeLen (b′ .sizes)) where
+  abbrev begun : TreeState
+  begun = record { state = begin b′ lent; tree = tree }
+
+  begun-reached : TreeReached (ours real) b′ begun
+  begun-reached = record { lent = lent; formats = formats; tree = tree; size = size; taken = []; here = refl }
+
+  fresh-leaves : (year first′ end′ : ℕ) (draws : List ℕ) (same : end′ - first′ ≡ end - first) → tapRead begun chapter year first′ end′ draws (textIn o) .answer ≡ taken.Done
+      → Leaves b′ (tapRead begun chapter year first′ end′ draws (textIn o) .desk) (tapRead begun chapter year first′ end′ draws (textIn o) .tree)
+      (λ id held. (i : ℕ) → i < end - first → id ≡ first′ + i → ComesFresh chapter (ts .state .table (first + i)) held)
+  fresh-leaves year first′ end′ draws same h =
+      let w = leaves b ts chapter first end o year first′ end′ same begun draws b′ byte begun-reached h in
+      record {
+        after = w .after;
+        reached = w .reached;
+        desk-is = w .desk-is;
+        tree-is = w .tree-is;
+        table-is = λ id i l e. fresh-comes chapter year (ts .state .table (first + i)) (w .after .state .table id) (w .table-is id .inside i l e);
+      }
+
 pub carried : Carried
 carried =
     record {
       never-bad = λ b ts chapter first end o ts′ year first′ end′ draws same. not-bad b ts chapter first end o year first′ end′ same ts′ draws;
       carried = λ b ts chapter first end o b′ byte ts′ reached year first′ end′ draws same h. leaves b ts chapter first end o year first′ end′ same ts′ draws b′ byte reached h;
+      fresh = λ b ts chapter first end o b′ byte lent formats tree size. fresh-leaves b ts chapter first end o b′ byte lent formats tree size;
     }

@@ -6,7 +6,9 @@ use mathlib.Core.Logic.{_≢_, _⊎_}
 use mathlib.Core.Bool.{false}
 use mathlib.Core.Option.{Option, none, some}
 use mathlib.Core.List.{List}
-use lib.ListN.{take}
+use lib.ListN.{length, take}
+use Rattle.sizes.specs.declared.Outcome.the-variants.{Done}
+use Rattle.sizes.specs.Sizes.{treeLen}
 use Rattle.slots.specs.Slots.{Bytes}
 use Rattle.items.specs.Real.{real}
 use Rattle.keeping.specs.Table.{Table}
@@ -17,7 +19,8 @@ use Rattle.taking.specs.declared.Trouble.{Trouble}
 use Rattle.returning.specs.Returning.{isSaid, Plain}
 use Rattle.tap.specs.declared.Taken.the-variants as taken
 use Rattle.tap.specs.declared.Printed.the-variants as printed
-use Rattle.promises.specs.Stores.{ours, Start}
+use Rattle.tap.specs.Tap.{readOf}
+use Rattle.promises.specs.Stores.{ours, Start, formatFor}
 use Rattle.promises.specs.Trees.{TreeState, TreeReached}
 use Rattle.promises.specs.Rows.{PassHeld}
 use Rattle.promises.specs.Taps.{tapRead, tapWrite, Leaves}
@@ -37,6 +40,13 @@ pub record Comes (chapter year : ℕ) (held before after : Option (List ℕ)) : 
       → after ≡ some rec
   -- a pass there was a pass in the first, or it stood in the second before
   pub only-passes : PassHeld chapter after → PassHeld chapter held ⊎ (after ≡ before)
+
+-- where the second is fresh
+pub record ComesFresh (chapter : ℕ) (held after : Option (List ℕ)) : Type 0 where
+  -- an id that is Never in the first is Never
+  pub never : held ≡ none → after ≡ none
+  -- and a pass was a pass: no skip comes as one
+  pub passed : PassHeld chapter after → PassHeld chapter held
 
 -- number i of a range of n in the first is number i of the range in the second; all other ids hold what they held
 pub record CarriedTo (chapter year first n first′ : ℕ) (one two : Table) (id : ℕ) (held : Option (List ℕ)) : Type 0 where
@@ -66,3 +76,11 @@ pub record Carried : Type 0 where
       → end′ - first′ ≡ end - first → tapRead ts′ chapter year first′ end′ draws (textIn o) .answer ≡ taken.Done
       → Leaves b′ (tapRead ts′ chapter year first′ end′ draws (textIn o) .desk) (tapRead ts′ chapter year first′ end′ draws (textIn o) .tree)
       (CarriedTo chapter year first (end - first) first′ (ts .state .table) (ts′ .state .table))
+  -- into a fresh store, over a tree with any bytes
+  pub fresh : (b : Start) (ts : TreeState) (chapter first end : ℕ) (o : Out b ts chapter first end)
+      → (b′ : Start) → b′ .room < 256 → (lent : List ℕ) → formatFor b′ lent .answer ≡ Done → (tree : List ℕ) → length tree ≡ treeLen (b′ .sizes)
+      → (year first′ end′ : ℕ) (draws : List ℕ) → end′ - first′ ≡ end - first
+      → readOf (formatFor b′ lent .desk) tree chapter year first′ end′ draws (textIn o) .answer ≡ taken.Done
+      → Leaves b′ (readOf (formatFor b′ lent .desk) tree chapter year first′ end′ draws (textIn o) .desk)
+      (readOf (formatFor b′ lent .desk) tree chapter year first′ end′ draws (textIn o) .tree)
+      (λ id held. (i : ℕ) → i < end - first → id ≡ first′ + i → ComesFresh chapter (ts .state .table (first + i)) held)
