@@ -30,7 +30,6 @@ use Rattle.store.specs.Finish.{finishedOr, finishOf, finishChecked}
 use Rattle.requests.specs.declared.Answered.the-variants as answered
 use Rattle.requests.specs.Request.{finishedBy, askedFor, requestOf}
 use Rattle.verdicts.specs.declared.counts.Cell.{Cell}
-use Rattle.verdicts.specs.declared.counts.Cell.the-variants.{Passed}
 use Rattle.verdicts.specs.declared.counts.Found.{Found}
 use Rattle.verdicts.specs.declared.counts.Found.the-variants as found
 use Rattle.verdicts.specs.declared.counts.Counts.{Counts}

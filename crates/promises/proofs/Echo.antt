@@ -12,7 +12,6 @@ use borrow.Author.Tests.{eqb-true, eq-eqb, le-leb}
 use Rattle.words.specs.Bytes.{zeros}
 use Rattle.words.proofs.Splice.{length-zeros}
 use Rattle.sizes.specs.declared.Outcome.{Outcome}
-use Rattle.sizes.specs.declared.Outcome.the-variants.{Done}
 use Rattle.sizes.specs.Refusals.{keptOr}
 use Rattle.sizes.specs.Sizes.{recordLen, pathLen, itemOf, placeIn}
 use Rattle.desk.specs.declared.Kind.the-variants.{Read}

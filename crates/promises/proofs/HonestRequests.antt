@@ -34,7 +34,8 @@ use Rattle.promises.specs.Requests.{twoTurns, requestFor, tableAs, AsTur
 use Rattle.promises.proofs.Answers.{asked-refused}
 use Rattle.promises.proofs.Rows.{low-refusal}
 use Rattle.promises.proofs.Trees.{reached-both}
-use Rattle.promises.proofs.Requests.{was-refused, whole-requests}
+use Rattle.promises.proofs.RequestAnswers.{was-refused}
+use Rattle.promises.proofs.Requests.{whole-requests}
 
 -- ---- desk and tree are those of a state that is reached, and its table is this one
 

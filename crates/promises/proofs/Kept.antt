@@ -10,7 +10,7 @@ use lib.ListN.{length, getD, drop}
 use lib.Dec.{eqb}
 use Rattle.sizes.specs.declared.Sizes.{Sizes}
 use Rattle.sizes.specs.declared.Refusal.the-variants.{Forged, Full}
-use Rattle.sizes.specs.declared.Outcome.the-variants.{Done, Refused}
+use Rattle.sizes.specs.declared.Outcome.the-variants.{Done}
 use Rattle.sizes.specs.Sizes.{recordLen, countLen, itemOf}
 use Rattle.bags.specs.Bags.{those}
 use Rattle.slots.specs.Slots.{Block}

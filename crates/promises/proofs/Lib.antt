@@ -14,6 +14,7 @@ pub mod Kept
 pub mod Two
 pub mod TreeHolds
 pub mod Trees
+pub mod RequestAnswers
 pub mod Requests
 pub mod BookRows
 pub mod TableRows

@@ -10,7 +10,6 @@ use lib.Dec.{eqb}
 use borrow.Author.Tests.{eqb-true, eqb-false, eq-eqb, ne-eqb, lt-leb}
 use Rattle.words.proofs.Tests.{byCases}
 use Rattle.sizes.specs.declared.Sizes.{Sizes}
-use Rattle.sizes.specs.declared.Refusal.{Refusal}
 use Rattle.sizes.specs.declared.Refusal.the-variants.{BadLength, Forged}
 use Rattle.sizes.specs.declared.Outcome.{Outcome}
 use Rattle.sizes.specs.declared.Outcome.the-variants.{Done, Refused}
@@ -30,13 +29,13 @@ use Rattle.store.specs.declared.Finished.{Finished}
 use Rattle.store.specs.declared.Finished.the-variants as finished
 use Rattle.store.specs.Finish.{FinishResult, finishOf, finishChecked, finishBy}
 use Rattle.requests.specs.declared.Answered.the-variants as answered
-use Rattle.requests.specs.Request.{RequestResult, isRefused, putUnless, returned, finishedBy, fetchedFor, askedFor, requestOf}
+use Rattle.requests.specs.Request.{RequestResult, isRefused, putUnless, returned, finishedBy, fetchedFor, askedFor}
 use Rattle.promises.specs.Stores.{Store, ours, Start, Request}
 use Rattle.promises.specs.Steps.{State, begin, afterAsk, afterFinish}
 use Rattle.promises.specs.Trees.{TreeState, Turn, asking, putIf, turn, turns, TreeReached, fetchedBy, TreeKept}
 use Rattle.promises.specs.Requests.{asRequest, twoTurns, requestFor, tableAs, AsTurns, WholeRequests}
 use Rattle.promises.proofs.Answers.{leaf-asked}
-use Rattle.promises.proofs.One.{demand-one}
+use Rattle.promises.proofs.RequestAnswers.{refuses}
 use Rattle.promises.proofs.TreeHolds.{fits-checked}
 use Rattle.promises.proofs.Trees.{Both, range, leaf-low, reached-both, demand-two-tree}
 
@@ -217,50 +216,6 @@ asked-only b byte ts r path buffer kind id leaf p g e = go (askOf (ts .state .de
         sym (ap (λ (a : Asked). askedFor a (askOf (ts .state .desk) kind id leaf buffer .desk) (ts .tree) path buffer .answer) h) ∙ e in
         let z : _≡_ {A = ℕ} 0 1 = cc in
         absurd (omega arith)
-
-asked-not : (o : Outcome) (s : Sizes) (p : ℕ) (desk tree path buffer : List ℕ) (q : Refusal) → finishedBy o s p desk tree path buffer .answer ≡ answered.Refused q → ⊥
-asked-not Done s p desk tree path buffer q h = let z : _≡_ {A = ℕ} 0 1 = cc in omega arith
-asked-not (Refused r) s p desk tree path buffer q h = let z : _≡_ {A = ℕ} 0 1 = cc in omega arith
-
--- a request that is answered by a refusal alone was refused by its ask; any other was asked
-pub was-refused : (desk tree path buffer : List ℕ) (kind : Kind) (id leaf : ℕ) (q : Refusal)
-    → requestOf desk tree path buffer kind id leaf .answer ≡ answered.Refused q → askOf desk kind id leaf buffer .answer ≡ asked.Refused q
-was-refused desk tree path buffer kind id leaf q e = go (askOf desk kind id leaf buffer .answer) refl
-  where
-    go : (a : Asked) → askOf desk kind id leaf buffer .answer ≡ a → askOf desk kind id leaf buffer .answer ≡ asked.Refused q
-    go (asked.Leaf p) h =
-        let x = askOf desk kind id leaf buffer .desk in
-        absurd
-        (asked-not (fetchOf (sizesOf x) p tree path .answer) (sizesOf x) p x tree (fetchOf (sizesOf x) p tree path .path) buffer q
-        (sym (ap (λ (a : Asked). askedFor a x tree path buffer .answer) h) ∙ e))
-    go (asked.Refused r) h =
-        let w : answered.Refused r ≡ answered.Refused q =
-        sym (ap (λ (a : Asked). askedFor a (askOf desk kind id leaf buffer .desk) tree path buffer .answer) h) ∙ e in
-        h ∙ cc
-
-pub was-asked : (desk tree path buffer : List ℕ) (kind : Kind) (id leaf p : ℕ) (f : Finished)
-    → requestOf desk tree path buffer kind id leaf .answer ≡ answered.Asked p f → (x : ℕ) × (askOf desk kind id leaf buffer .answer ≡ asked.Leaf x)
-was-asked desk tree path buffer kind id leaf p f e = go (askOf desk kind id leaf buffer .answer) refl
-  where
-    go : (a : Asked) → askOf desk kind id leaf buffer .answer ≡ a → (x : ℕ) × (askOf desk kind id leaf buffer .answer ≡ asked.Leaf x)
-    go (asked.Leaf x) h = (x, h)
-    go (asked.Refused q) h =
-        let w : answered.Refused q ≡ answered.Asked p f =
-        sym (ap (λ (a : Asked). askedFor a (askOf desk kind id leaf buffer .desk) tree path buffer .answer) h) ∙ e in
-        let z : _≡_ {A = ℕ} 0 1 = cc in
-        absurd (omega arith)
-
-refuses : (desk tree path buffer : List ℕ) (kind : Kind) (id leaf : ℕ) (q : Refusal) → requestOf desk tree path buffer kind id leaf .answer ≡ answered.Refused q
-    → (requestOf desk tree path buffer kind id leaf .desk ≡ desk) × (requestOf desk tree path buffer kind id leaf .tree ≡ tree)
-    × (requestOf desk tree path buffer kind id leaf .path ≡ path) × (requestOf desk tree path buffer kind id leaf .buffer ≡ buffer)
-refuses desk tree path buffer kind id leaf q e =
-    let h = was-refused desk tree path buffer kind id leaf q e in
-    let x = askOf desk kind id leaf buffer .desk in (
-      ap (λ (a : Asked). askedFor a x tree path buffer .desk) h ∙ demand-one real .ask-refuses desk kind id leaf buffer q h,
-      ap (λ (a : Asked). askedFor a x tree path buffer .tree) h,
-      ap (λ (a : Asked). askedFor a x tree path buffer .path) h,
-      ap (λ (a : Asked). askedFor a x tree path buffer .buffer) h,
-    )
 
 pub whole-requests : WholeRequests
 whole-requests =
