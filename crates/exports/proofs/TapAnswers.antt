@@ -19,7 +19,7 @@ use Rattle.tap.specs.declared.Taken.{Taken}
 use Rattle.tap.specs.declared.Taken.the-variants as taken
 use Rattle.tap.specs.declared.Printed.{Printed}
 use Rattle.tap.specs.declared.Printed.the-variants as printed
-use Rattle.tap.specs.Passing.{SheetResult, passOf}
+use Rattle.passing.specs.Passing.{SheetResult, passOf}
 use Rattle.tap.specs.Tap.{WriteResult, wrote, writeChecked, printedBy, writeBy, writeOf}
 use Rattle.tap.proofs.TextWritten.{write-passed}
 use Rattle.exports.specs.TapCodes.{troubleCode, takenCode}

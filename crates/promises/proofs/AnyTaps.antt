@@ -22,7 +22,7 @@ use Rattle.printing.specs.Printed.{roomOf}
 use Rattle.printing.specs.Printing.{textOf}
 use Rattle.tap.specs.declared.Taken.the-variants as taken
 use Rattle.tap.specs.declared.Printed.the-variants as printed
-use Rattle.tap.specs.Passing.{SheetResult, passOf}
+use Rattle.passing.specs.Passing.{SheetResult, passOf}
 use Rattle.tap.specs.Tap.{ReadResult, takenBy, readText, readBy, readOf, WriteResult, writeRows, writeChecked, printedBy, writeBy, writeOf}
 use Rattle.promises.specs.Taps.{AnyTap}
 

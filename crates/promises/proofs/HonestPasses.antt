@@ -25,7 +25,7 @@ use Rattle.requests.specs.Request.{requested, requestOf}
 use Rattle.keeping.specs.Table.{Table, plainBuffer, plainTable}
 use Rattle.sheets.specs.Sheet.{entryStart, entryAt}
 use Rattle.returning.proofs.Sheets.{fill-long, fill-same, fill-below, fill-above}
-use Rattle.tap.specs.Passing.{kindOf, EntryResult, requestedEntry, entryBy, requestEntry, PassResult, passed, goingOn, passFrom}
+use Rattle.passing.specs.Passing.{kindOf, EntryResult, requestedEntry, entryBy, requestEntry, PassResult, passed, goingOn, passFrom}
 use Rattle.promises.specs.Stores.{ours, Start}
 use Rattle.promises.specs.Trees.{TreeState, TreeReached}
 use Rattle.promises.specs.Taps.{tableAfter}

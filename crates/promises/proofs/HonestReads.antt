@@ -21,7 +21,7 @@ use Rattle.verdicts.specs.declared.counts.Cell.{Cell}
 use Rattle.verdicts.specs.declared.counts.Found.the-variants as found
 use Rattle.verdicts.specs.Cells.{recordCell, foundOf}
 use Rattle.book.specs.MatrixRow.{ReadResult, lookedBy, readOf, rowRows, rowChecked}
-use Rattle.tap.specs.Passing.{finishedOutcome}
+use Rattle.passing.specs.Passing.{finishedOutcome}
 use Rattle.promises.specs.Stores.{Start, Accepted}
 use Rattle.promises.specs.Requests.{tableAs}
 use Rattle.promises.specs.Rows.{tableCell}

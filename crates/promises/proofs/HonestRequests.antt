@@ -27,7 +27,7 @@ use Rattle.requests.specs.declared.Answered.{Answered}
 use Rattle.requests.specs.declared.Answered.the-variants as answered
 use Rattle.requests.specs.Request.{RequestResult, requestOf}
 use Rattle.keeping.specs.Table.{Table, plainAnswer, plainBuffer, plainHeld}
-use Rattle.tap.specs.Passing.{finishedOutcome, outcomeOf}
+use Rattle.passing.specs.Passing.{finishedOutcome, outcomeOf}
 use Rattle.promises.specs.Stores.{ours, Start, Accepted}
 use Rattle.promises.specs.Trees.{TreeState, TreeReached}
 use Rattle.promises.specs.Requests.{twoTurns, requestFor, tableAs, AsTurns}

@@ -23,7 +23,7 @@ use Rattle.store.specs.declared.Finished.the-variants as finished
 use Rattle.requests.specs.Request.{RequestResult, requestOf}
 use Rattle.book.specs.MatrixRow.{rowChecked}
 use Rattle.book.proofs.Passed.{row-passed}
-use Rattle.tap.specs.Passing.{finishedOutcome, outcomeOf}
+use Rattle.passing.specs.Passing.{finishedOutcome, outcomeOf}
 use Rattle.promises.specs.Stores.{ours, Start, Accepted}
 use Rattle.promises.specs.Trees.{TreeState, TreeReached}
 use Rattle.promises.specs.Requests.{requestFor, twoTurns, AsTurns}

@@ -26,7 +26,7 @@ use Rattle.verdicts.specs.declared.counts.Row.the-variants.{Refused}
 use Rattle.verdicts.specs.Cells.{plus, noCounts}
 use Rattle.book.specs.MatrixRow.{ReadResult, RunResult, foundBy, readOf, goingOn, rowFrom, rowBy}
 use Rattle.book.proofs.Passed.{row-passed}
-use Rattle.tap.specs.Passing.{finishedOutcome, outcomeOf}
+use Rattle.passing.specs.Passing.{finishedOutcome, outcomeOf}
 use Rattle.promises.specs.Stores.{ours, Start}
 use Rattle.promises.specs.Trees.{TreeState, TreeReached}
 use Rattle.promises.specs.Rows.{rowIn, AllLeaves, MayBegin}

@@ -14,7 +14,7 @@ use Rattle.words.proofs.Splice.{part-left, part-right, part-whole, part-add, le
 use Rattle.sizes.specs.Sizes.{recordLen}
 use Rattle.keeping.specs.Table.{Table, plainHeld, plainTable}
 use Rattle.sheets.specs.Sheet.{entryStart, entryAt, isRecord, emptySheet}
-use Rattle.tap.specs.Passing.{kindOf}
+use Rattle.passing.specs.Passing.{kindOf}
 use Rattle.promises.specs.Taps.{entryOr, tableAfter, entryHeld, tableSheet}
 
 -- ---- the table after a sheet: in the range, and on both sides of it

@@ -22,7 +22,7 @@ use Rattle.returning.proofs.Sheets.{fill-long}
 use Rattle.taking.specs.declared.Text.{Text}
 use Rattle.tap.specs.declared.Taken.the-variants as taken
 use Rattle.tap.specs.declared.Printed.the-variants as printed
-use Rattle.tap.specs.Passing.{EntryResult, kindOf, requestEntry, PassResult, goingOn, passFrom, passOf}
+use Rattle.passing.specs.Passing.{EntryResult, kindOf, requestEntry, PassResult, goingOn, passFrom, passOf}
 use Rattle.tap.specs.Tap.{ReadResult, readText, writeBy}
 use Rattle.promises.specs.Stores.{ours, Start}
 use Rattle.promises.specs.Trees.{TreeState, TreeReached}

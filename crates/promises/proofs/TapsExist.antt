@@ -25,7 +25,7 @@ use Rattle.printing.specs.Printed.{roomOf}
 use Rattle.printing.specs.Printing.{headText, entryText, entriesText, textOf}
 use Rattle.tap.specs.declared.Taken.the-variants as taken
 use Rattle.tap.specs.declared.Printed.the-variants as printed
-use Rattle.tap.specs.Passing.{kindOf, finishedOutcome, outcomeOf, requestEntry, passed, goingOn, passFrom, SheetResult, passOf}
+use Rattle.passing.specs.Passing.{kindOf, finishedOutcome, outcomeOf, requestEntry, passed, goingOn, passFrom, SheetResult, passOf}
 use Rattle.tap.specs.Tap.{ReadResult, takenBy, readText, readOf, printedBy, writeBy, writeOf}
 use Rattle.promises.specs.Stores.{Start, formatFor}
 use Rattle.promises.specs.Exists.{Proper}

@@ -20,7 +20,7 @@ use Rattle.taking.specs.declared.Text.the-variants as took
 use Rattle.taking.specs.Taking.{takeOf}
 use Rattle.tap.specs.declared.Taken.{Taken}
 use Rattle.tap.specs.declared.Taken.the-variants as taken
-use Rattle.tap.specs.Passing.{passFrom, passOf}
+use Rattle.passing.specs.Passing.{passFrom, passOf}
 use Rattle.tap.specs.Tap.{ReadResult, readIn, readText, readBy}
 use Rattle.promises.specs.Stores.{ours, Start}
 use Rattle.promises.specs.Trees.{TreeState, TreeReached}

@@ -24,7 +24,7 @@ use Rattle.taking.specs.declared.Text.the-variants as took
 use Rattle.taking.specs.Taking.{takeOf}
 use Rattle.tap.specs.declared.Taken.the-variants as taken
 use Rattle.tap.specs.declared.Printed.the-variants as printed
-use Rattle.tap.specs.Passing.{kindOf, outcomeOf, requestEntry, PassResult, passed, goingOn, passFrom, SheetResult, passOf}
+use Rattle.passing.specs.Passing.{kindOf, outcomeOf, requestEntry, PassResult, passed, goingOn, passFrom, SheetResult, passOf}
 use Rattle.tap.specs.Tap.{takenBy, readText, readBy, readOf, writeChecked, printedBy, writeBy, writeOf}
 use Rattle.promises.specs.Deeds.{leafAsked, passShows, sheetShows, textShows, tapInShowsBy, tapInShows, tapOutShowsBy, tapOutShows, goOnTaken, goOnPrinted}
 use Rattle.promises.proofs.AnyTaps.{row-checked, was-read, was-written}

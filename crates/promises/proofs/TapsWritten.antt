@@ -21,7 +21,7 @@ use Rattle.book.proofs.Passed.{row-passed}
 use Rattle.sheets.specs.Sheet.{emptySheet}
 use Rattle.printing.specs.Printing.{textOf}
 use Rattle.tap.specs.declared.Printed.the-variants as printed
-use Rattle.tap.specs.Passing.{kindOf, passFrom, SheetResult, passOf}
+use Rattle.passing.specs.Passing.{kindOf, passFrom, SheetResult, passOf}
 use Rattle.tap.specs.Tap.{WriteResult, writeRows, writeChecked, printedBy, writeBy}
 use Rattle.promises.specs.Stores.{ours, Start}
 use Rattle.promises.specs.Trees.{TreeState, TreeReached}

@@ -28,7 +28,7 @@ use Rattle.tap.specs.declared.Taken.{Taken}
 use Rattle.tap.specs.declared.Taken.the-variants as taken
 use Rattle.tap.specs.declared.Printed.{Printed}
 use Rattle.tap.specs.declared.Printed.the-variants as printed
-use Rattle.tap.specs.Passing.{kindOf}
+use Rattle.passing.specs.Passing.{kindOf}
 use Rattle.tap.specs.Tap.{readOf, writeChecked, writeOf}
 use Rattle.promises.specs.Stores.{ours, formatFor}
 use Rattle.promises.specs.DemandThree.{Around, shownIf, goOn, finishThen, Run}

@@ -1,5 +1,3 @@
-pub mod OneEntry
-pub mod PassTurns
 pub mod Ranges
 pub mod TextRead
 pub mod TextWritten

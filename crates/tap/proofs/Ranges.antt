@@ -4,14 +4,10 @@ use mathlib.Core.Path.{_≡_, ap, _∙_}
 use mathlib.Core.List.{List}
 use native.Mathlib.Omega.{arith}
 use lib.ListN.{length}
-use Rattle.words.specs.Bytes.{zeros}
 use Rattle.words.proofs.Splice.{length-zeros}
-use Rattle.sizes.specs.declared.Outcome.{Outcome}
-use Rattle.sizes.specs.Sizes.{recordLen, mostIds, pathLen}
-use Rattle.desk.specs.Readers.{sizesOf}
+use Rattle.sizes.specs.Sizes.{recordLen, mostIds}
 use Rattle.book.proofs.Passed.{RowPassed}
 use Rattle.sheets.specs.Sheet.{emptySheet}
-use Rattle.tap.specs.Passing.{passed, passFrom, sheetPassed, withoutPath, passOf}
 
 -- a range of ids that there are
 pub record Good (first end : ℕ) : Type 0 where
@@ -29,8 +25,3 @@ good-range p =
 
 pub empty-long : (n : ℕ) {sheet : List ℕ} → sheet ≡ emptySheet n → length sheet ≡ n * recordLen
 empty-long n e = ap (λ (xs : List ℕ). length xs) e ∙ length-zeros (n * recordLen)
-
--- a pass whose path begins as zeros is the whole sheet's
-pub sheet-passed : (desk tree : List ℕ) (first : ℕ) (draws sheet : List ℕ) {path : List ℕ} → path ≡ zeros (pathLen (sizesOf desk))
-    → {a : Outcome} {d t p s : List ℕ} → passed a d t p s ≡ passFrom first 0 draws desk tree path sheet → sheetPassed a d t s ≡ passOf desk tree first draws sheet
-sheet-passed desk tree first draws sheet e h = ap withoutPath (h ∙ ap (λ (p : List ℕ). passFrom first 0 draws desk tree p sheet) e)

@@ -13,7 +13,7 @@ use Rattle.taking.specs.declared.Text.the-variants as text
 use Rattle.taking.specs.Taking.{TextResult, took, takeInto, takeOf}
 use Rattle.tap.specs.declared.Taken.{Taken}
 use Rattle.tap.specs.declared.Taken.the-variants as taken
-use Rattle.tap.specs.Passing.{sheetPassed, passOf}
+use Rattle.passing.specs.Passing.{sheetPassed, passOf}
 use Rattle.tap.specs.Tap.{readIn, takenBy, readPassed, readText, readTaken, readBy, readOf}
 
 module _ (desk tree : List ℕ) (chapter year first n : ℕ) (draws words : List ℕ) {sheet : List ℕ} (z : sheet ≡ emptySheet n) {r : Text} {s : List ℕ}

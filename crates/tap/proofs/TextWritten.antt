@@ -20,7 +20,7 @@ use Rattle.printing.specs.Printing.{textOf}
 use Rattle.sheets.specs.Sheet.{emptySheet}
 use Rattle.tap.specs.declared.Printed.{Printed}
 use Rattle.tap.specs.declared.Printed.the-variants as printed
-use Rattle.tap.specs.Passing.{SheetResult, sheetPassed, passOf}
+use Rattle.passing.specs.Passing.{SheetResult, sheetPassed, passOf}
 use Rattle.tap.specs.Tap.{wrote, writeChecked, printedBy, writePassed, writeBy, writeOf}
 
 -- ---- rows after rows: the earlier refuse first

@@ -22,7 +22,7 @@ use Rattle.tap.specs.declared.Taken.{Taken}
 use Rattle.tap.specs.declared.Taken.the-variants as taken
 use Rattle.tap.specs.declared.Printed.{Printed}
 use Rattle.tap.specs.declared.Printed.the-variants as printed
-use Rattle.tap.specs.Passing.{SheetResult, passOf}
+use Rattle.passing.specs.Passing.{SheetResult, passOf}
 
 -- ---- reading: the book's refusals, then the text's, then those of the requests
 

@@ -1,6 +1,4 @@
 // TAP in and out: a text of the Test Anything Protocol read into the store for a range of ids of the verdict book, and the text that says the range. Assumes nothing.
-mod passing;
-
 use printing::print;
 use sizes::Outcome;
 use sizes::Refusal;
@@ -14,7 +12,7 @@ ghost use Rattle.book.specs.MatrixRow.{rowChecked};
 ghost use Rattle.printing.specs.Printed.{roomOf};
 ghost use Rattle.sheets.specs.Sheet.{emptySheet};
 ghost use Rattle.taking.specs.Taking.{takeOf};
-ghost use Rattle.tap.specs.Passing.{passOf};
+ghost use Rattle.passing.specs.Passing.{passOf};
 ghost use Rattle.tap.specs.Tap.{readIn, readTaken, readOf, wrote, writeChecked, writePassed, writeOf};
 
 // What reading answers: the store's refusals, or the text's with the number of its line.

@@ -12,7 +12,7 @@ use Rattle.sizes.specs.declared.Outcome.{Outcome}
 use Rattle.sizes.specs.declared.Outcome.the-variants as outcome
 use Rattle.sizes.specs.Sizes.{recordLen}
 use Rattle.sheets.specs.Sheet.{entryStart, entryAt}
-use Rattle.tap.specs.Passing.{EntryResult, requestedEntry, requestEntry, PassResult, passed, goingOn, passFrom}
+use Rattle.passing.specs.Passing.{EntryResult, requestedEntry, requestEntry, PassResult, passed, goingOn, passFrom}
 
 -- ids up to, not including, `id` are done
 pub record SoFar (first end : ℕ) (draws : List ℕ) (whole : PassResult) (id : ℕ) (desk tree path sheet : List ℕ) : Type 0 where

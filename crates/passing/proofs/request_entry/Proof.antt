@@ -1,8 +1,8 @@
--- `tap::passing::request_entry` meets its contract: a refused request is refused, and a finished one has its outcome. Assumes nothing.
-use Rattle.tap.proofs.OneEntry.{entry-refused, entry-finished}
+-- `passing::request_entry` meets its contract: a refused request is refused, and a finished one has its outcome. Assumes nothing.
+use Rattle.passing.proofs.OneEntry.{entry-refused, entry-finished}
 use borrow.Author.Needs.{needs}
-use Rattle.tap.proofs.passing.request_entry.Statement.{statement}
-use Rattle.tap.proofs.passing.request_entry.Tie as tie
+use Rattle.passing.proofs.request_entry.Statement.{statement}
+use Rattle.passing.proofs.request_entry.Tie as tie
 
 kind-of-requires : tie.Need-kind-of-requires
 kind-of-requires c κs = search needs

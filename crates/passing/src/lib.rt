@@ -10,7 +10,7 @@ ghost use lib.ListN.{length};
 ghost use Rattle.sizes.specs.declared.Outcome.the-variants as outcome;
 ghost use Rattle.sizes.specs.Sizes.{recordLen};
 ghost use Rattle.book.specs.MatrixRow.{rowChecked};
-ghost use Rattle.tap.specs.Passing.{kindOf, finishedOutcome, requestedEntry, requestEntry, passed, passFrom, sheetPassed, passOf};
+ghost use Rattle.passing.specs.Passing.{kindOf, finishedOutcome, requestedEntry, requestEntry, passed, passFrom, sheetPassed, passOf};
 
 // A record is written; where there is none, the id's is read.
 fn kind_of(entry: &[u8]) -> Kind

@@ -10,7 +10,7 @@ use Rattle.store.specs.declared.Finished.{Finished}
 use Rattle.requests.specs.declared.Answered.{Answered}
 use Rattle.requests.specs.declared.Answered.the-variants as answered
 use Rattle.requests.specs.Request.{requested, requestOf}
-use Rattle.tap.specs.Passing.{kindOf, finishedOutcome, outcomeOf, requestedEntry, entryBy, requestEntry}
+use Rattle.passing.specs.Passing.{kindOf, finishedOutcome, outcomeOf, requestedEntry, entryBy, requestEntry}
 
 module _ (desk tree path entry : List ℕ) (id draw : ℕ) {kind : Kind} (k : kind ≡ kindOf entry) {a : Answered} {d t p b : List ℕ}
     (e : requested a d t p b ≡ requestOf desk tree path entry kind id draw) where

@@ -1,4 +1,4 @@
--- `tap::passing::pass_all` meets its contract: the pass begins with a path of zeros. Assumes nothing.
+-- `passing::pass_all` meets its contract: the pass begins with a path of zeros. Assumes nothing.
 use Prim.Native.Nat.{_≤_}
 use mathlib.Core.Path.{_≡_, sym, ap, _∙_}
 use native.Mathlib.Omega.{arith}
@@ -9,10 +9,10 @@ use Rattle.sizes.specs.Sizes.{mostPath, pathLen}
 use Rattle.sizes.proofs.Lengths.{path-most}
 use Rattle.desk.specs.Readers.{sizesOf}
 use Rattle.book.proofs.Passed.{row-passed}
-use Rattle.tap.proofs.Ranges.{sheet-passed}
+use Rattle.passing.proofs.Whole.{sheet-passed}
 use borrow.Author.Needs.{needs}
-use Rattle.tap.proofs.passing.pass_all.Statement.{statement}
-use Rattle.tap.proofs.passing.pass_all.Tie as tie
+use Rattle.passing.proofs.pass_all.Statement.{statement}
+use Rattle.passing.proofs.pass_all.Tie as tie
 
 path-is : (c : tie.After-path-len) → c .path-len .result ≡ pathLen (sizesOf (c .before .before .before .before .before .before .before .args .desk .now))
 path-is c = c .path-len .ensures ∙ ap pathLen (c .before .sizes-of .ensures)

@@ -1,4 +1,4 @@
--- `tap::passing::pass` meets its contract: at each turn, what is left to do comes to what the whole pass is. Assumes nothing.
+-- `passing::pass` meets its contract: at each turn, what is left to do comes to what the whole pass is. Assumes nothing.
 use Prim.Native.Nat.{ℕ, _+_, _-_, _*_, _≤_, _<_}
 use mathlib.Core.Path.{_≡_, refl, ap, _∙_}
 use native.Mathlib.Omega.{arith}
@@ -7,10 +7,10 @@ use borrow.Author.Needs.{needs}
 use borrow.Rule.Slice.PartMut.{same-len-mid}
 use Rattle.words.specs.Bytes.{part}
 use Rattle.words.proofs.Splice.{length-part}
-use Rattle.tap.specs.Passing.{passFrom}
-use Rattle.tap.proofs.PassTurns.{SoFar, begun, entry-within, entry-done, pass-refused, all-passed}
-use Rattle.tap.proofs.passing.pass.Statement.{statement}
-use Rattle.tap.proofs.passing.pass.Tie as tie
+use Rattle.passing.specs.Passing.{passFrom}
+use Rattle.passing.proofs.PassTurns.{SoFar, begun, entry-within, entry-done, pass-refused, all-passed}
+use Rattle.passing.proofs.pass.Statement.{statement}
+use Rattle.passing.proofs.pass.Tie as tie
 
 abbrev Inv-loop : tie.InvT-loop
 Inv-loop desk₀ tree₀ path₀ sheet₀ first end draws id₀ desk tree path sheet id =

@@ -1,9 +1,9 @@
--- `tap::passing::finished_outcome` meets its contract: a finish's refusal is the request's. Assumes nothing.
+-- `passing::finished_outcome` meets its contract: a finish's refusal is the request's. Assumes nothing.
 use mathlib.Core.Path.{sym, ap}
-use Rattle.tap.specs.Passing.{finishedOutcome}
+use Rattle.passing.specs.Passing.{finishedOutcome}
 use borrow.Author.Needs.{needs}
-use Rattle.tap.proofs.passing.finished_outcome.Statement.{statement}
-use Rattle.tap.proofs.passing.finished_outcome.Tie as tie
+use Rattle.passing.proofs.finished_outcome.Statement.{statement}
+use Rattle.passing.proofs.finished_outcome.Tie as tie
 
 enum-told : tie.Need-enum-told
 enum-told c = search needs

@@ -1,10 +1,10 @@
--- `tap::passing::kind_of` meets its contract: the test decides between the two kinds. Assumes nothing.
+-- `passing::kind_of` meets its contract: the test decides between the two kinds. Assumes nothing.
 use mathlib.Core.Path.{sym, ap, _∙_}
 use mathlib.Core.Bool.{Bool, cond}
 use Rattle.desk.specs.declared.Kind.the-variants.{Read, Write}
 use borrow.Author.Needs.{needs}
-use Rattle.tap.proofs.passing.kind_of.Statement.{statement}
-use Rattle.tap.proofs.passing.kind_of.Tie as tie
+use Rattle.passing.proofs.kind_of.Statement.{statement}
+use Rattle.passing.proofs.kind_of.Tie as tie
 
 is-record-requires : tie.Need-is-record-requires
 is-record-requires c κs = search needs
