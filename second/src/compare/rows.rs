@@ -55,6 +55,20 @@ pub fn history(pair: &mut Pair, random: &mut Random, number: u64) -> Result<(), 
 
 /// Breaks every condition of a good desk in turn, with all else left good.
 pub fn bad_desks(pair: &mut Pair, random: &mut Random, turn: u64) -> Result<(), Mismatch> {
+    each_bad_desk(pair, random, turn, |pair, random, asked| {
+        pair.lend_numbers(&[random.word() as u16; 6]);
+        Ok(vec![(ROW, pair.row(asked)?)])
+    })
+}
+
+/// Makes calls over a range of each such desk, which name the entry and its
+/// answer: draws, desk and tree are lent before.
+pub fn each_bad_desk(
+    pair: &mut Pair,
+    random: &mut Random,
+    turn: u64,
+    calls: impl Fn(&mut Pair, &mut Random, Asked) -> Result<Vec<(usize, i32)>, Mismatch>,
+) -> Result<(), Mismatch> {
     pair.sizes = draw::sizes(random, turn, 6);
     let mut made = Made::new(random, pair.sizes);
     let id = Desk(&made.desk).requested();
@@ -76,10 +90,10 @@ pub fn bad_desks(pair: &mut Pair, random: &mut Random, turn: u64) -> Result<(), 
         };
         pair.lend_draws(&draw::leaves(random, made.shape, asked.length().into()));
         pair.lend_desk(&desk);
-        pair.lend_numbers(&[random.word() as u16; 6]);
-        let answer = pair.row(asked)?;
-        if let (-1, Some(flaw)) = (answer, flaws(&desk).only()) {
-            pair.tally.bad_desk(ROW, flaw);
+        for (entry, answer) in calls(pair, random, asked)? {
+            if let (-1, Some(flaw)) = (answer, flaws(&desk).only()) {
+                pair.tally.bad_desk(entry, flaw);
+            }
         }
     }
     pair.lend_tree(&[]);

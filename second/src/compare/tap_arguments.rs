@@ -3,16 +3,12 @@
 
 use super::draw;
 use super::entries::{alone, exact_or_not, junk};
-use super::made::Made;
 use super::pair::{Mismatch, Pair};
 use super::rows::{self, Call, DESK, DRAWS, LEAF, RANGE, TREE};
-use super::spoil_desk::{self, to_ready};
 use super::tally::{TAP_READ, TAP_WRITE};
 use super::tap_tally::LENGTH_REASONS;
 use super::tap_texts;
-use crate::desk::{self, Desk};
-use crate::found::Named;
-use crate::good::{flaws, Flaw};
+use crate::desk;
 use crate::random::Random;
 use crate::row::Asked;
 use crate::store::Sheet;
@@ -137,40 +133,12 @@ fn reason(call: &Call, out: bool, answer: i32) -> Option<&'static str> {
 
 /// Breaks every condition of a good desk in turn, with all else left good.
 pub fn bad_desks(pair: &mut Pair, random: &mut Random, turn: u64) -> Result<(), Mismatch> {
-    pair.sizes = draw::sizes(random, turn, 6);
-    let mut made = Made::new(random, pair.sizes);
-    let id = Desk(&made.desk).requested();
-    let tree = rows::some_tree(random, &mut made, false);
-    pair.lend_tree(&tree);
-    for flaw in Flaw::ALL {
-        let mut desk = made.desk.clone();
-        if random.once_in(2) {
-            to_ready(&mut desk);
-        }
-        if !spoil_desk::spoil(random, &mut desk, *flaw) {
-            continue;
-        }
-        let (first, end, _) = rows::around(random, id, pair.sizes.ids);
-        let asked = Asked {
-            chapter: 0,
-            first,
-            end,
-        };
+    rows::each_bad_desk(pair, random, turn, |pair, random, asked| {
         let count = asked.length();
-        pair.lend_draws(&draw::leaves(random, made.shape, count.into()));
-        pair.lend_desk(&desk);
         pair.lend_line(random.word());
         pair.lend_out(&junk(random, room(count)));
         let text = tap_texts::text(random, count).text;
-        let sheet = Sheet { asked, year: 0 };
-        let read = pair.tap_read(sheet, &text)?;
-        let written = pair.tap_write(asked)?;
-        for (entry, answer) in [(TAP_READ, read), (TAP_WRITE, written)] {
-            if let (-1, Some(flaw)) = (answer, flaws(&desk).only()) {
-                pair.tally.bad_desk(entry, flaw);
-            }
-        }
-    }
-    pair.lend_tree(&[]);
-    Ok(())
+        let read = pair.tap_read(Sheet { asked, year: 0 }, &text)?;
+        Ok(vec![(TAP_READ, read), (TAP_WRITE, pair.tap_write(asked)?)])
+    })
 }
