@@ -4,13 +4,13 @@ use mathlib.Core.Path.{_≡_, refl, sym, ap, _∙_}
 use mathlib.Core.Bool.{true}
 use mathlib.Core.List.{List, [], _∷_}
 use native.Mathlib.Omega.{arith}
-use borrow.Author.Tests.{ltb-true, ltb-false, le-ltb}
+use borrow.Author.Tests.{ltb-true, ltb-false, le-ltb, ne-eqb, le-leb, lt-leb}
 use lib.ListN.{length, drop, getD}
-use lib.Dec.{ltb}
+use lib.Dec.{leb, ltb, eqb}
 use Rattle.words.proofs.Tests.{byCases}
 use Rattle.text.specs.Fronts.{isDigit, digits, value, zeroDigit}
 use Rattle.text.proofs.Fronts.{digits-step}
-use Rattle.lines.specs.Line.{mostCount, capped, count, countOf}
+use Rattle.lines.specs.Line.{mostCount, capped, HidesNothing, count, countOf}
 
 -- ---- values and their cap
 
@@ -42,6 +42,23 @@ capped-value v ds =
     let h : mostCount ≤ value v ds = omega (arith, ltb-false v mostCount e, value-grows v ds) in
     let k : mostCount ≤ value mostCount ds = value-grows mostCount ds in
     capped-high (value v ds) h ∙ sym (capped-high (value mostCount ds) k) ∙ rw e)
+
+-- a range is shorter than the cap
+pub hides-nothing : (n : ℕ) → n < mostCount → HidesNothing n
+hides-nothing n h = record { same-n = same; same-low = low; same-high = high }
+  where
+    same : (v : ℕ) → eqb (capped v) n ≡ eqb v n
+    same v =
+        byCases (ltb v mostCount) (λ e. rw e)
+        (λ e. rw (e, ne-eqb mostCount n (λ k. omega (arith, k, h)), ne-eqb v n (λ k. omega (arith, k, h, ltb-false v mostCount e))))
+
+    low : (v : ℕ) → leb 1 (capped v) ≡ leb 1 v
+    low v = byCases (ltb v mostCount) (λ e. rw e) (λ e. rw (e, le-leb 1 v (omega (arith, ltb-false v mostCount e))))
+
+    high : (v : ℕ) → leb (capped v) n ≡ leb v n
+    high v =
+        byCases (ltb v mostCount) (λ e. rw e)
+        (λ e. rw (e, lt-leb mostCount n (omega (arith, h)), lt-leb v n (omega (arith, h, ltb-false v mostCount e))))
 
 -- ---- the loop: i digits are read, and their value is v, or the cap
 

@@ -1,5 +1,6 @@
 -- What a line of TAP is: version, plan, test, comment, or malformed. Definitions go by the bytes of the line, without its line feed. Assumes nothing.
 use Prim.Native.Nat.{ℕ, zero, suc, _+_, _≤_}
+use mathlib.Core.Path.{_≡_}
 use mathlib.Core.Bool.{Bool, true, false, cond, not, _&&_}
 use mathlib.Core.List.{List, [], _∷_}
 use lib.ListN.{length, take, drop, getD}
@@ -44,6 +45,12 @@ mostCount = 65536
 
 abbrev pub capped : ℕ → ℕ
 capped v = cond (ltb v mostCount) v mostCount
+
+-- so nothing is hidden from a range of n: whether a number is n, or among 1 to n, is the same of the capped one
+pub record HidesNothing (n : ℕ) : Type 0 where
+  pub same-n : (v : ℕ) → eqb (capped v) n ≡ eqb v n
+  pub same-low : (v : ℕ) → leb 1 (capped v) ≡ leb 1 v
+  pub same-high : (v : ℕ) → leb (capped v) n ≡ leb v n
 
 abbrev pub count : ℕ → ℕ → Count
 count v n = record { value = v; length = n }
