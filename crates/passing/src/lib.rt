@@ -54,7 +54,7 @@ fn request_entry(
 }
 
 // One request for each id of a range, rising, whatever the sheet holds.
-pub fn pass(
+fn pass(
     desk: &mut [u8],
     tree: &mut [u8],
     path: &mut [u8],
