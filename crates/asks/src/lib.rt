@@ -1,4 +1,5 @@
 // Ask: opens a request in a desk and answers with the id's position, or refuses and changes nothing.
+#![tactic(auto)]
 ghost use Rattle.std.specs.Prelude.{◌≡◌, true, ◌+◌, ◌≤◌, length};
 ghost use Rattle.words.specs.Bytes.{splice};
 ghost use Rattle.desk.specs.Layout.{Whole, shape_of};
@@ -7,7 +8,7 @@ ghost use Rattle.asks.specs.Ask.{record_fits, ask_checked, head_bytes, record_by
 use desk::Kind;
 use sizes::{Outcome, Refusal};
 
-#[derive(Drop)]
+#[derive(Clone, Copy, Drop)]
 pub enum Asked {
     Leaf(u16),
     Refused(Refusal),

@@ -1,1 +1,2 @@
 // Lists as bags: definitions and laws only, in specs/ and proofs/. There is no code.
+#![tactic(auto)]

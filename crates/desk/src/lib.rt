@@ -1,5 +1,6 @@
 // The desk: its layout, and when it is good. What a desk says, what can be changed in one, and the conditions are defined in specs/;
 // the laws that callers cite are in proofs/.
+#![tactic(auto)]
 use sizes::Sizes;
 
 // When the bodies (c), (d) and (e) are good.
@@ -80,7 +81,7 @@ pub const FIRST_STOPPED: u8 = FORGED;
 
 pub const MOST_STATUS: u8 = FULL;
 
-#[derive(Drop)]
+#[derive(Clone, Copy, Drop)]
 pub enum Kind {
     Read,
     Write,
@@ -96,7 +97,7 @@ pub fn kind_number(k: Kind) -> u8
 }
 
 // The lengths on which a desk's layout depends: of body (b), of a record, and the numbers of ids and of stash slots.
-#[derive(Drop)]
+#[derive(Clone, Copy, Drop)]
 pub struct Shape {
     pub b: usize,
     pub r: usize,

@@ -1,5 +1,6 @@
 // Gathering: every block that a finish meets goes into a bank, the requested one under its new leaf, and a plan says where each goes. Blocks of
 // the opened path and of the stash are copied there, so that the lent path and the stash in the desk can be written from it.
+#![tactic(auto)]
 ghost use Rattle.std.specs.Prelude.{◌≡◌, ◌+◌, ◌*◌, ◌≤◌, length, drop};
 ghost use Rattle.words.specs.Bytes.{splice};
 ghost use Rattle.sizes.specs.Sizes.{InRange, most_slots, record_len, slot_len, path_len};
@@ -12,7 +13,7 @@ use placing::Counts;
 use sizes::Sizes;
 
 // The requested block: whether there is one to place, which a read of an id that was never written has not; its id and its new leaf.
-#[derive(Drop)]
+#[derive(Clone, Copy, Drop)]
 pub struct Request {
     pub there: bool,
     pub id: u16,

@@ -1,4 +1,5 @@
 // One item of a path: its fields, its digest, its slots under the cipher. A path is lent as a slice that begins with it.
+#![tactic(auto)]
 ghost use Rattle.std.specs.Prelude.{◌≡◌, cond, ◌+◌, ◌≤◌, ◌<◌, length, eqb};
 ghost use Rattle.words.specs.Bytes.{part, splice, zeros, same};
 ghost use Rattle.sizes.specs.Sizes.{leaves, counter_len, digest_len, item_at, item_of};
@@ -11,7 +12,7 @@ use sha256::Hasher;
 use sizes::Sizes;
 
 // What the steps of finish read from a desk: the sizes, the key, root written, the root digest, and the leaf that was asked for.
-#[derive(Drop)]
+#[derive(Clone, Copy, Drop)]
 pub struct View {
     pub sizes: Sizes,
     pub key: [u8; 32],

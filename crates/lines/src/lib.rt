@@ -1,4 +1,5 @@
 // What one line of the Test Anything Protocol, version 13, says. Assumes nothing.
+#![tactic(auto)]
 mod descriptions;
 mod directives;
 mod fronts;
@@ -17,13 +18,13 @@ pub const HYPHEN: u8 = 45;
 pub const MOST_COUNT: u64 = 65536;
 
 // The digits at a text's front: their value, and how many they are.
-#[derive(Drop)]
+#[derive(Clone, Copy, Drop)]
 pub struct Count {
     pub value: u64,
     pub length: usize,
 }
 
-#[derive(Drop)]
+#[derive(Clone, Copy, Drop)]
 pub enum Directive {
     None,
     Skip,
@@ -31,14 +32,14 @@ pub enum Directive {
 }
 
 // The first directive of a text: how many bytes stand before it.
-#[derive(Drop)]
+#[derive(Clone, Copy, Drop)]
 pub struct Cut {
     pub at: usize,
     pub directive: Directive,
 }
 
 // A test line. Its description has `length` bytes and stands in the line from `from` on.
-#[derive(Drop)]
+#[derive(Clone, Copy, Drop)]
 pub struct Test {
     pub verdict: Verdict,
     pub number: u64,
@@ -46,7 +47,7 @@ pub struct Test {
     pub length: usize,
 }
 
-#[derive(Drop)]
+#[derive(Clone, Copy, Drop)]
 pub enum Line {
     Version,
     Plan(u64),

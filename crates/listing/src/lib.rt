@@ -1,4 +1,5 @@
 // The listing's lines, written into a buffer from a place on; each function answers with the place after what it wrote. Assumes nothing.
+#![tactic(auto)]
 ghost use Rattle.std.specs.Prelude.{◌≡◌, ◌+◌, ◌≤◌, length};
 ghost use Rattle.sizes.specs.Sizes.{record_len};
 ghost use Rattle.text.specs.Text.{write_word, refused_word, record_word, header_line, bad_line};
@@ -16,14 +17,14 @@ pub const MOST_DECIMAL: usize = 20;
 pub const MOST_ROW: usize = 141;
 
 // The leaf asked for.
-#[derive(Drop)]
+#[derive(Clone, Copy, Drop)]
 pub enum Shown {
     Leaf(u16),
     Nothing,
 }
 
 // What the listing says of a request.
-#[derive(Drop)]
+#[derive(Clone, Copy, Drop)]
 pub enum Answer {
     Record,
     Never,

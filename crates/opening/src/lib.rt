@@ -1,4 +1,5 @@
 // Finish, steps 1 and 2: what of a path is reachable, its slots opened into a working copy, the checks; and the lookup of an id.
+#![tactic(auto)]
 ghost use Rattle.std.specs.Prelude.{◌≡◌, suc, ◌≤◌, ◌<◌, length};
 ghost use Rattle.sizes.specs.Sizes.{InRange, leaves, path_len, most_path};
 ghost use Rattle.desk.specs.Readers.{id_asked};
@@ -62,7 +63,7 @@ fn open_slots(w: &mut [u8], path: &[u8], v: View, n: usize)
 }
 
 // What steps 1 and 2 find: how many items are reachable, and whether all checks pass.
-#[derive(Drop)]
+#[derive(Clone, Copy, Drop)]
 pub struct Opening {
     pub count: usize,
     pub good: bool,

@@ -1,5 +1,6 @@
 // Placing, step 5 of finish: which block goes where is planned before anything that was lent is written, so that Full is known first. The plan is
 // two small arrays: the blocks' places in a bank of slots by rising id, and for each the height of its bucket. `fill` lays the slots of one height.
+#![tactic(auto)]
 ghost use Rattle.std.specs.Prelude.{◌≡◌, ◌+◌, ◌*◌, ◌≤◌, length};
 ghost use Rattle.sizes.specs.Sizes.{InRange, most_ids, slot_len};
 ghost use Rattle.slots.specs.Slots.{blocks_of};
@@ -17,7 +18,7 @@ pub mod walk;
 pub const MOST_BLOCKS: usize = (Sizes::MOST_HEIGHT + 1) * Sizes::MOST_SLOTS + Sizes::MOST_ROOM + 1;
 
 // How many blocks there are, and how many of them remain.
-#[derive(Drop)]
+#[derive(Clone, Copy, Drop)]
 pub struct Counts {
     pub all: usize,
     pub over: usize,

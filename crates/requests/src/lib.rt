@@ -1,4 +1,5 @@
 // One whole request against a lent tree: ask, fetch, finish, put.
+#![tactic(auto)]
 ghost use Rattle.std.specs.Prelude.{◌≤◌, ◌≡◌, length};
 ghost use Rattle.sizes.specs.Sizes.{sized};
 ghost use Rattle.desk.specs.Layout.{b_at};
@@ -13,7 +14,7 @@ use sizes::{Outcome, Refusal};
 use store::Finished;
 
 // What a whole request answers: a refusal before anything was asked, or the leaf asked for and what came of it.
-#[derive(Drop)]
+#[derive(Clone, Copy, Drop)]
 pub enum Answered {
     Refused(Refusal),
     Asked { leaf: u16, finished: Finished },

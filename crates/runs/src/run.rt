@@ -9,7 +9,7 @@ use crate::{head, request};
 use setup::Store;
 
 // Where a run stands: the first line is to come, or the second, or requests, of which `count` were read; or it is over.
-#[derive(Drop)]
+#[derive(Clone, Copy, Drop)]
 pub enum Run {
     First,
     Second(Store),
@@ -18,7 +18,7 @@ pub enum Run {
 }
 
 // Where the run stands after a line, and how many bytes of the listing were written.
-#[derive(Drop)]
+#[derive(Clone, Copy, Drop)]
 pub struct Step {
     pub run: Run,
     pub written: usize,

@@ -1,4 +1,5 @@
 // A line of requests, `write ` or `read `, read; and the record that its text stands for. Each function goes by a line without its line feed. Assumes nothing.
+#![tactic(auto)]
 ghost use Rattle.std.specs.Prelude.{◌≡◌, ◌-◌, ◌≤◌, length};
 ghost use Rattle.desk.specs.declared.Kind.TheVariants.{Write};
 ghost use Rattle.sizes.specs.Sizes.{record_len};
@@ -9,7 +10,7 @@ use sizes::Sizes;
 use text::{Taken, bytes, numbers};
 
 // A line of requests. The text stands from `text` up to the line's end.
-#[derive(Drop)]
+#[derive(Clone, Copy, Drop)]
 pub enum Line {
     Request {
         kind: Kind,

@@ -1,4 +1,5 @@
 // The script's first two lines, `store ` and `start `, read. Each function goes by a line without its line feed. Assumes nothing.
+#![tactic(auto)]
 ghost use Rattle.std.specs.Prelude.{◌≡◌, ◌≤◌, min, length};
 ghost use Rattle.setup.specs.Setup.{store_by, store_of, start_good, start_leaves};
 
@@ -10,7 +11,7 @@ pub const MOST_HEIGHT: u16 = 3;
 pub const MOST_BYTE: u16 = 255;
 
 // What the first line asks for: L, Z, S, N.
-#[derive(Drop)]
+#[derive(Clone, Copy, Drop)]
 pub struct Store {
     pub height: u8,
     pub slots: u8,
@@ -19,7 +20,7 @@ pub struct Store {
 }
 
 // The first line.
-#[derive(Drop)]
+#[derive(Clone, Copy, Drop)]
 pub enum First {
     Is(Store),
     Bad,

@@ -11,7 +11,7 @@ use digest_sha2::constants256::initial;
 use words::copy;
 
 // The hash value after the whole blocks so far, a block that begins with the bytes left over, and how many bytes in all, modulo 2 ^ 64.
-#[derive(Drop)]
+#[derive(Clone, Copy, Drop)]
 pub struct Hasher {
     state: [u32; 8],
     block: [u8; 64],

@@ -14,7 +14,7 @@ use runs::run::Run;
 use window::Next;
 
 // Where the program stands: the unread text is in the window from `from` up to `to`, and `ended` says whether that is all that is left of the script.
-#[derive(Drop)]
+#[derive(Clone, Copy, Drop)]
 pub struct Place {
     pub from: usize,
     pub to: usize,
@@ -23,7 +23,7 @@ pub struct Place {
 }
 
 // What a turn comes to.
-#[derive(Drop)]
+#[derive(Clone, Copy, Drop)]
 pub enum Turn {
     Go(Place),
     Stop,

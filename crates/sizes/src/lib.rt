@@ -1,11 +1,12 @@
 // Sizes: lengths and places on the server's side from the height and the slots of a bucket alone, the desk's length, and the refusals.
+#![tactic(auto)]
 ghost use Rattle.std.specs.Prelude.{◌≡◌, ◌+◌, ◌*◌, ◌^◌, ◌≤◌, ◌<◌};
 ghost use Rattle.sizes.specs.Sizes as spec;
 ghost use Rattle.sizes.specs.Places.{ItemAt, InnerAt, InTree};
 ghost use Rattle.sizes.specs.Refusals.{number_of};
 
 // The paper's eleven, in the order of their numbers.
-#[derive(Drop)]
+#[derive(Clone, Copy, Drop)]
 pub enum Refusal {
     BadDesk,
     Stopped,
@@ -21,7 +22,7 @@ pub enum Refusal {
 }
 
 // What an entry with nothing else to answer comes to, and what the checks of any entry do.
-#[derive(Drop)]
+#[derive(Clone, Copy, Drop)]
 pub enum Outcome {
     Done,
     Refused(Refusal),
@@ -45,7 +46,7 @@ pub fn number(r: Refusal) -> u8
     }
 }
 
-#[derive(Drop)]
+#[derive(Clone, Copy, Drop)]
 pub struct Sizes {
     pub height: usize,
     pub slots: usize,

@@ -1,4 +1,5 @@
 // Finish: the open request is answered over the path that the server handed back. Nothing lent is written before the last refusal is behind.
+#![tactic(auto)]
 ghost use Rattle.std.specs.Prelude.{◌≡◌, ℕ, ◌+◌, ◌≤◌, ◌<◌, length};
 ghost use Rattle.sizes.specs.Sizes.{leaves, path_len, record_len};
 ghost use Rattle.sizes.specs.Refusals.{first_of};
@@ -23,7 +24,7 @@ mod plan;
 mod request;
 
 // What a finish answers. A record goes to the lent buffer.
-#[derive(Drop)]
+#[derive(Clone, Copy, Drop)]
 pub enum Finished {
     Record,
     Never,

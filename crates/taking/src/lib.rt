@@ -1,4 +1,5 @@
 // A text of TAP, read line by line into a sheet. Assumes nothing.
+#![tactic(auto)]
 ghost use Rattle.std.specs.Prelude.{◌≡◌, true, ◌+◌, ◌*◌, ◌≤◌, ◌<◌, length};
 ghost use Rattle.sizes.specs.Sizes.{record_len};
 ghost use Rattle.verdicts.specs.Verdict.{can_be_read};
@@ -10,21 +11,21 @@ use sizes::Sizes;
 use text::bytes;
 
 // The refusals of a text.
-#[derive(Drop)]
+#[derive(Clone, Copy, Drop)]
 pub enum Trouble {
     Malformed,
     BadPlan,
 }
 
 // What a line comes to: on to the next, where `Go` says whether the plan has come; or the line's trouble.
-#[derive(Drop)]
+#[derive(Clone, Copy, Drop)]
 pub enum Step {
     Go(bool),
     Stop(Trouble),
 }
 
 // What a text comes to: its lines count from 1.
-#[derive(Drop)]
+#[derive(Clone, Copy, Drop)]
 pub enum Text {
     Good,
     Bad { trouble: Trouble, line: usize },

@@ -1,4 +1,5 @@
 // TAP in and out: a text of the Test Anything Protocol read into the store for a range of ids of the verdict book, and the text that says the range. Assumes nothing.
+#![tactic(auto)]
 ghost use Rattle.std.specs.Prelude.{◌≡◌, ◌-◌};
 ghost use Rattle.sizes.specs.declared.Outcome.TheVariants as outcome;
 ghost use Rattle.book.specs.MatrixRow.{row_checked};
@@ -13,7 +14,7 @@ use sizes::{Outcome, Refusal, Sizes};
 use taking::{Text, Trouble};
 
 // What reading answers: the store's refusals, or the text's with the number of its line.
-#[derive(Drop)]
+#[derive(Clone, Copy, Drop)]
 pub enum Taken {
     Done,
     Refused(Refusal),
@@ -21,7 +22,7 @@ pub enum Taken {
 }
 
 // What writing answers: the length of the text.
-#[derive(Drop)]
+#[derive(Clone, Copy, Drop)]
 pub enum Printed {
     Length(usize),
     Refused(Refusal),

@@ -7,7 +7,7 @@ use sizes::Refusal;
 use store::Finished;
 
 // Where a case stands in a row: by its verdict, or as a record that is bad, or as never run.
-#[derive(Drop)]
+#[derive(Clone, Copy, Drop)]
 pub enum Cell {
     Passed,
     Failed,
@@ -18,13 +18,13 @@ pub enum Cell {
 }
 
 // What the read of a case comes to.
-#[derive(Drop)]
+#[derive(Clone, Copy, Drop)]
 pub enum Found {
     Cell(Cell),
     Refused(Refusal),
 }
 
-#[derive(Drop)]
+#[derive(Clone, Copy, Drop)]
 pub struct Counts {
     pub passed: u16,
     pub failed: u16,
@@ -35,7 +35,7 @@ pub struct Counts {
 }
 
 // What a row answers, complete exactly if every case has passed; or the refusal that ended it, and no counts.
-#[derive(Drop)]
+#[derive(Clone, Copy, Drop)]
 pub enum Row {
     Refused(Refusal),
     Counted { counts: Counts, complete: bool },

@@ -1,4 +1,5 @@
 // A verdict in a record: verdict, chapter, suite year, and a name that zeros follow. Assumes nothing.
+#![tactic(auto)]
 ghost use Rattle.std.specs.Prelude.{◌≡◌, ◌≤◌, length};
 ghost use Rattle.sizes.specs.Sizes.{record_len};
 ghost use Rattle.verdicts.specs.Verdict.{most_name, verdict_number, is_verdict, verdict_of, is_padded, reading_of, can_be_read, head_of, record_of, make_of, making};
@@ -22,7 +23,7 @@ pub const MOST_NAME: usize = Sizes::RECORD - NAME;
 pub const MOST_CHAPTER: u8 = 31;
 
 // The numbers of the verdicts are 1 to 4, in this order. 0 is none of them, so that zeros are never a pass.
-#[derive(Drop)]
+#[derive(Clone, Copy, Drop)]
 pub enum Verdict {
     Pass,
     Fail,
@@ -31,7 +32,7 @@ pub enum Verdict {
 }
 
 // What a record says. The name has `length` bytes and stands in the record from NAME on.
-#[derive(Drop)]
+#[derive(Clone, Copy, Drop)]
 pub struct Entry {
     pub verdict: Verdict,
     pub chapter: u8,
@@ -39,7 +40,7 @@ pub struct Entry {
     pub length: usize,
 }
 
-#[derive(Drop)]
+#[derive(Clone, Copy, Drop)]
 pub enum Reading {
     Good(Entry),
     Bad,

@@ -1,4 +1,5 @@
 // A script that is read in pieces: the unread text stands in a window from `from` up to `to`. Assumes nothing.
+#![tactic(auto)]
 ghost use Rattle.std.specs.Prelude.{◌≡◌, ◌-◌, ◌≤◌, length};
 ghost use Rattle.words.specs.Bytes.{part, splice};
 ghost use Rattle.window.specs.Pieces.{next_of, Ahead};
@@ -9,7 +10,7 @@ use text::bytes;
 pub const LINE_FEED: u8 = 10;
 
 // What a window has to read: a line up to `end`, after which the next one begins; or more of the script is wanted; or nothing is left.
-#[derive(Drop)]
+#[derive(Clone, Copy, Drop)]
 pub enum Next {
     Line { end: usize, next: usize },
     More,
