@@ -5,7 +5,6 @@ use native.Mathlib.Omega.{arith}
 use lib.ListN.{get_or, drop_of_length-le}
 use Rattle.text.specs.Fronts.{digits}
 use Rattle.text.proofs.Fronts as fronts
-use borrow.Author.Tests.{not-true, not-false}
 use Rattle.text.proofs.numbers.number_of.Goals as goal
 
 pub loop-i-init : goal.loop-i-init
@@ -18,13 +17,13 @@ pub returns-then-not-is_digit : goal.returns-then-not-is_digit
 returns-then-not-is_digit c =
     let l = c.loop-i in
     let s = c.args.s.now in
-    c.number_by.ensures ∙ fronts.read-end s l.i l.v l.invariant (fronts.digits-stop s l.i c.loop-i-test.true (sym c.is_digit.ensures ∙ not-true _ c.if-not-is_digit.true))
+    c.number_by.ensures ∙ fronts.read-end s l.i l.v l.invariant (fronts.digits-stop s l.i c.loop-i-test.true (sym c.is_digit.ensures ∙ c.if-not-is_digit.true))
 
 pub returns-then-i-eq-MOST_DIGITS : goal.returns-then-i-eq-MOST_DIGITS
 returns-then-i-eq-MOST_DIGITS c =
     let l = c.loop-i in
     let s = c.args.s.now in
-    fronts.read-long s l.i l.v l.invariant c.loop-i-test.true c.if-i-eq-MOST_DIGITS.true (sym c.is_digit.ensures ∙ not-false _ c.if-not-is_digit.false)
+    fronts.read-long s l.i l.v l.invariant c.loop-i-test.true c.if-i-eq-MOST_DIGITS.true (sym c.is_digit.ensures ∙ c.if-not-is_digit.false)
 
 pub overflow_mul-v : goal.overflow_mul-v
 overflow_mul-v c =
@@ -35,26 +34,26 @@ overflow_mul-v c =
 pub overflow_sub-v : goal.overflow_sub-v
 overflow_sub-v c =
     let l = c.loop-i in
-    fronts.digit_low (get_or c.args.s.now l.i 0) (sym c.is_digit.ensures ∙ not-false _ c.if-not-is_digit.false)
+    fronts.digit_low (get_or c.args.s.now l.i 0) (sym c.is_digit.ensures ∙ c.if-not-is_digit.false)
 
 pub overflow_cast-v : goal.overflow_cast-v
 overflow_cast-v c =
     let l = c.loop-i in
-    let k = fronts.digit-high (get_or c.args.s.now l.i 0) (sym c.is_digit.ensures ∙ not-false _ c.if-not-is_digit.false) in
+    let k = fronts.digit-high (get_or c.args.s.now l.i 0) (sym c.is_digit.ensures ∙ c.if-not-is_digit.false) in
     omega arith
 
 pub overflow_add-v : goal.overflow_add-v
 overflow_add-v c =
     let l = c.loop-i in
     let k = fronts.few-digits l.i l.v l.invariant.few l.invariant.low in
-    let h = fronts.digit-high (get_or c.args.s.now l.i 0) (sym c.is_digit.ensures ∙ not-false _ c.if-not-is_digit.false) in
+    let h = fronts.digit-high (get_or c.args.s.now l.i 0) (sym c.is_digit.ensures ∙ c.if-not-is_digit.false) in
     omega arith
 
 pub loop-i-preserved : goal.loop-i-preserved
 loop-i-preserved c =
     let l = c.loop-i in
     let s = c.args.s.now in
-    let e = sym c.is_digit.ensures ∙ not-false _ c.if-not-is_digit.false in
+    let e = sym c.is_digit.ensures ∙ c.if-not-is_digit.false in
     fronts.read_more s l.i l.v l.invariant c.loop-i-test.true (omega arith) e
 
 pub number_by-requires-2 : goal.number_by-requires-2

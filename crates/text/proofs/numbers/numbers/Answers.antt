@@ -30,8 +30,7 @@ returns-in-None c =
     let l = c.loop-i in
     let a = c.args in
     let e = from_at a.s.now l.at _ _ c.spaced_number.ensures c.in-None.is l.invariant.inside in
-    let g = fronts.got-bad a.s.now a.out.now l.out l.at l.i l.invariant (omega arith) e in
-    ((g.0, tt), g.1)
+    let g = fronts.got-bad a.s.now a.out.now l.out l.at l.i l.invariant (omega arith) e in record { value = (g.0, tt); out_after = g.1 }
 
 pub bounds-out-i : goal.bounds-out-i
 bounds-out-i c = omega arith
@@ -72,5 +71,4 @@ pub returns : goal.returns
 returns c =
     let l = c.loop-i in
     let a = c.args in
-    let g = fronts.got-all a.s.now a.out.now l.out l.at l.i l.invariant (omega arith) in
-    ((g.0, l.invariant.inside), g.1)
+    let g = fronts.got-all a.s.now a.out.now l.out l.at l.i l.invariant (omega arith) in record { value = (g.0, l.invariant.inside); out_after = g.1 }
