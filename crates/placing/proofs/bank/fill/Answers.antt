@@ -1,0 +1,12 @@
+-- `placing::bank::fill` meets its contract: the slots are laid, and what is left of the room is cleared. Assumes nothing.
+use mathlib.Core.Path.{refl}
+use native.Mathlib.Omega.{arith}
+use Rattle.placing.proofs.Laid.{filled}
+use Rattle.placing.proofs.bank.fill.Goals as goal
+
+pub returns : goal.returns
+returns c =
+    let a = c.args in
+    let l = c.lay-k in
+    filled a.dst.now l.new.dst c.clear.new.dst a.a a.room a.h l.result _ a.at.now a.bank.now a.places.now
+    (λ i. omega (arith, c.shared_slice_known-3-1.given i)) c.requires.places_in_bounds.1 c.requires.room_in_bounds.0 c.requires.places_len_bound l.ensures.value refl l.ensures.dst_after c.clear.ensures
