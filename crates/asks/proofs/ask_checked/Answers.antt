@@ -1,0 +1,100 @@
+-- `asks::ask_checked` meets its contract: each return is the first row whose test holds; what a row needs is known from the rows before it. Assumes nothing.
+use mathlib.Core.Path.{◌≡◌, sym, ap, ◌∙◌}
+use mathlib.Core.Bool.{true}
+use native.Mathlib.Omega.{arith}
+use borrow.Author.Tests.{eq-eqb, ne_eqb, le-leb, lt-leb}
+use Rattle.sizes.specs.Sizes.{leaves}
+use Rattle.desk.specs.declared.Shape.{Shape}
+use Rattle.desk.specs.Layout.{ids_of, shape_of}
+use Rattle.desk.specs.Readers.{sizes_of}
+use Rattle.desk.specs.Good.{good_desk}
+use Rattle.desk.proofs.Known.{known}
+use Rattle.asks.specs.Ask.{ask_checked, record_fits}
+use Rattle.asks.proofs.ask_checked.Goals as goal
+
+pub returns-then-not-good : goal.returns-then-not-good
+unfolding ask_checked
+returns-then-not-good c = rw (sym c.good.ensures ∙ c.if-not-good.true)
+
+pub bounds-desk-43 : goal.bounds-desk-43
+bounds-desk-43 c =
+    let good-at : good_desk c.args.desk.now ≡ true = sym c.good.ensures ∙ c.if-not-good.false in
+    omega (arith, (known _ good-at).size)
+
+pub returns-then-status-ge-FIRST_STOPPED : goal.returns-then-status-ge-FIRST_STOPPED
+unfolding ask_checked
+returns-then-status-ge-FIRST_STOPPED c =
+    let good-at : good_desk c.args.desk.now ≡ true = sym c.good.ensures ∙ c.if-not-good.false in
+    rw (good-at, le-leb _ _ c.if-status-ge-FIRST_STOPPED.true)
+
+pub returns-then-status-eq-OPEN : goal.returns-then-status-eq-OPEN
+unfolding ask_checked
+returns-then-status-eq-OPEN c =
+    let good-at : good_desk c.args.desk.now ≡ true = sym c.good.ensures ∙ c.if-not-good.false in
+    rw (good-at, lt-leb _ _ c.if-status-ge-FIRST_STOPPED.false, eq-eqb _ _ c.if-status-eq-OPEN.true)
+
+pub shape_of-h-requires : goal.shape_of-h-requires
+shape_of-h-requires c =
+    let good-at : good_desk c.args.desk.now ≡ true = sym c.good.ensures ∙ c.if-not-good.false in
+    omega (arith, (known _ good-at).size)
+
+pub returns-then-not-within : goal.returns-then-not-within
+unfolding ask_checked
+returns-then-not-within c =
+    let good-at : good_desk c.args.desk.now ≡ true = sym c.good.ensures ∙ c.if-not-good.false in
+    let ids_at : c.shape_of-h.result.n ≡ ids_of c.args.desk.now = ap (λ (h : Shape). h.n) c.shape_of-h.ensures in
+    rw (good-at, lt-leb _ _ c.if-status-ge-FIRST_STOPPED.false, ne_eqb _ _ c.if-status-eq-OPEN.false, ← ids_at, c.if-not-within.true)
+
+pub sizes_of-requires : goal.sizes_of-requires
+sizes_of-requires c =
+    let good-at : good_desk c.args.desk.now ≡ true = sym c.good.ensures ∙ c.if-not-good.false in
+    omega (arith, (known _ good-at).size)
+
+pub leaves-requires : goal.leaves-requires
+leaves-requires c =
+    let good-at : good_desk c.args.desk.now ≡ true = sym c.good.ensures ∙ c.if-not-good.false in
+    rw c.sizes_of.ensures (known _ good-at).head.sizes
+
+pub returns-then-leaves-leaf : goal.returns-then-leaves-leaf
+unfolding ask_checked
+returns-then-leaves-leaf c =
+    let good-at : good_desk c.args.desk.now ≡ true = sym c.good.ensures ∙ c.if-not-good.false in
+    let ids_at : c.shape_of-h.result.n ≡ ids_of c.args.desk.now = ap (λ (h : Shape). h.n) c.shape_of-h.ensures in
+    let leaves_at : c.leaves.result ≡ leaves (sizes_of c.args.desk.now) = c.leaves.ensures.0 ∙ ap leaves c.sizes_of.ensures in
+    rw (good-at, lt-leb _ _ c.if-status-ge-FIRST_STOPPED.false, ne_eqb _ _ c.if-status-eq-OPEN.false, ← ids_at, c.if-not-within.false, ← leaves_at, le-leb _ _ c.if-leaves-leaf.true)
+
+pub returns-then-not-record_fits : goal.returns-then-not-record_fits
+unfolding ask_checked
+returns-then-not-record_fits c =
+    let good-at : good_desk c.args.desk.now ≡ true = sym c.good.ensures ∙ c.if-not-good.false in
+    let ids_at : c.shape_of-h.result.n ≡ ids_of c.args.desk.now = ap (λ (h : Shape). h.n) c.shape_of-h.ensures in
+    let leaves_at : c.leaves.result ≡ leaves (sizes_of c.args.desk.now) = c.leaves.ensures.0 ∙ ap leaves c.sizes_of.ensures in
+    let fits-at : let a = c.args in c.record_fits.result ≡ record_fits (shape_of a.desk.now).r a.kind a.«record».now = let a = c.args in c.record_fits.ensures ∙ ap (λ (h : Shape). record_fits h.r a.kind a.«record».now) c.shape_of-h.ensures in
+    rw (
+      good-at,
+      lt-leb _ _ c.if-status-ge-FIRST_STOPPED.false,
+      ne_eqb _ _ c.if-status-eq-OPEN.false,
+      ← ids_at,
+      c.if-not-within.false,
+      ← leaves_at,
+      lt-leb _ _ c.if-leaves-leaf.false,
+      sym fits-at ∙ c.if-not-record_fits.true,
+    )
+
+pub returns : goal.returns
+unfolding ask_checked
+returns c =
+    let good-at : good_desk c.args.desk.now ≡ true = sym c.good.ensures ∙ c.if-not-good.false in
+    let ids_at : c.shape_of-h.result.n ≡ ids_of c.args.desk.now = ap (λ (h : Shape). h.n) c.shape_of-h.ensures in
+    let leaves_at : c.leaves.result ≡ leaves (sizes_of c.args.desk.now) = c.leaves.ensures.0 ∙ ap leaves c.sizes_of.ensures in
+    let fits-at : let a = c.args in c.record_fits.result ≡ record_fits (shape_of a.desk.now).r a.kind a.«record».now = let a = c.args in c.record_fits.ensures ∙ ap (λ (h : Shape). record_fits h.r a.kind a.«record».now) c.shape_of-h.ensures in
+    rw (
+      good-at,
+      lt-leb _ _ c.if-status-ge-FIRST_STOPPED.false,
+      ne_eqb _ _ c.if-status-eq-OPEN.false,
+      ← ids_at,
+      c.if-not-within.false,
+      ← leaves_at,
+      lt-leb _ _ c.if-leaves-leaf.false,
+      sym fits-at ∙ c.if-not-record_fits.false,
+    )

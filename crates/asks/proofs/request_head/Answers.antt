@@ -1,0 +1,7 @@
+-- `asks::request_head` meets its contract: the bytes of the definition, written out. Assumes nothing.
+use Rattle.words.specs.Numbers.{bytes_of}
+use Rattle.asks.proofs.request_head.Goals as goal
+
+pub returns : goal.returns
+unfolding bytes_of
+returns c = rw c.kind_number.ensures
