@@ -20,6 +20,7 @@ OWN_RESULT = {"tree": "tree_result", "formats": "format_result", "store": "finis
 # files of other crates that cite one of those by its bare name
 CITES = {"promises/specs/Wrong.antt": "ask_result", "runs/proofs/Steps.antt": "format_result"}
 TOKEN = re.compile(r"\"(?:[^\"\\\n]|\\.)*\"|" + W)
+COMMENT = re.compile(r"(--|//)[^\n]*")
 # Fields and lemmas whose new spelling another name has already: these get another word.
 SPECIAL = {
     "are-leaves": "leaves_are_good",
@@ -94,7 +95,12 @@ def renamed(token, dashed):
 
 def turn(text, rust, crate, name, dashed, clashes, path):
     own = OWN_RESULT.get(crate) or CITES.get(name)
+    # only where the file has the definition or brings it in: elsewhere `result` is what a function returns
+    if own and not re.search(r"[{,] ?result[,}]|^abbrev pub result\b", text, re.M):
+        own = None
     before = set()
+
+    remarks = [(m.start(), m.end()) for m in COMMENT.finditer(text)]
 
     def one(m):
         t = m.group(0)
@@ -108,7 +114,7 @@ def turn(text, rust, crate, name, dashed, clashes, path):
             new = t + "_lem"
         else:
             new = renamed(t, dashed)
-        if own and t == "result" and prev != ".":
+        if own and t == "result" and prev != "." and not any(a <= m.start() < b for a, b in remarks):
             new = own
         before.add((t, new))
         return new

@@ -1,4 +1,4 @@
--- What is known where format refuses nothing, that its refusals change nothing, and that its format_result is determined. Assumes nothing.
+-- What is known where format refuses nothing, that its refusals change nothing, and that its result is determined. Assumes nothing.
 use Prim.Native.Nat.{ℕ, ◌≤◌}
 use mathlib.Core.Path.{◌≡◌, refl, sym, ap, ◌∙◌}
 use mathlib.Core.Bool.{true, ◌&&◌}

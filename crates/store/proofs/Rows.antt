@@ -1,4 +1,4 @@
--- The finish_result of a finish, by the rows that apply: what each return of the code leaves is what the paper says. Assumes nothing.
+-- The result of a finish, by the rows that apply: what each return of the code leaves is what the paper says. Assumes nothing.
 use Prim.Native.Nat.{ℕ, ◌≤◌, ◌<◌}
 use mathlib.Core.Path.{◌≡◌, refl, sym, ap, ◌∙◌}
 use mathlib.Core.Bool.{Bool, true, false, cond, not}

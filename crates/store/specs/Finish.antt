@@ -51,7 +51,7 @@ pub record FinishResult : Type 0 where
 abbrev pub finish_result : Finished → List ℕ → List ℕ → List ℕ → FinishResult
 finish_result a d p b = record { answer = a; desk = d; path = p; buffer = b }
 
--- the finish_result of a finish whose checks came out as given
+-- the result of a finish whose checks came out as given
 abbrev pub finish_by : Outcome → Means → List ℕ → List ℕ → List ℕ → FinishResult
 finish_by c m desk path buffer =
     record {

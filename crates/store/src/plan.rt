@@ -17,7 +17,7 @@ use sizes::Sizes;
 // The requested block.
 fn request_of(desk: &[u8]) -> Request
     requires { OpenDesk desk.now }
-    ensures { finish_result ≡ ready.request_of desk.now }
+    ensures { result ≡ ready.request_of desk.now }
 {
     Request {
         there: request::is_there(request::kind_asked(desk), request::was_marked(desk)),
@@ -40,7 +40,7 @@ pub fn plan(
 ) -> Counts
     requires ready { Ready desk.now path.now v n w.now × (carried.now ≡ ready.carried_of desk.now path.now) }
     requires bank_len { (length bank.old ≡ slot_len * most_blocks) × ((length places.old ≡ most_blocks) × (length at.old ≡ most_blocks)) }
-    ensures { Planned v.sizes v.leaf (to_place real desk.now path.now) finish_result.all finish_result.over bank.new places.new at.new }
+    ensures { Planned v.sizes v.leaf (to_place real desk.now path.now) result.all result.over bank.new places.new at.new }
 {
     let s = v.sizes;
     let r = request_of(desk);
@@ -61,7 +61,7 @@ pub fn record_carried<'a>(
     n: usize,
 ) -> [u8; Sizes::RECORD]
     requires { Ready desk.now path.now v n w.now }
-    ensures { finish_result ≡ ready.carried_of desk.now path.now }
+    ensures { result ≡ ready.carried_of desk.now path.now }
 {
     let mut bytes = [0u8; Sizes::RECORD];
     words::copy(&mut bytes, 0, request::carried(desk, w, v, n));

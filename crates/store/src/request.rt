@@ -16,7 +16,7 @@ use sizes::Sizes;
 
 pub fn kind_asked(desk: &[u8]) -> Kind
     requires { OpenDesk desk.now }
-    ensures { finish_result ≡ kind_asked desk.now }
+    ensures { result ≡ kind_asked desk.now }
 {
     let a = desk::shape_of(desk).c_at() + desk::KIND_IN;
     if desk[a] == 0 {
@@ -28,21 +28,21 @@ pub fn kind_asked(desk: &[u8]) -> Kind
 // Whether the id asked for was marked when it was asked for.
 pub fn was_marked(desk: &[u8]) -> bool
     requires { OpenDesk desk.now }
-    ensures { finish_result ≡ is_marked desk.now (id_asked desk.now) }
+    ensures { result ≡ is_marked desk.now (id_asked desk.now) }
 {
     opening::is_marked(desk, opening::id_asked(desk))
 }
 
 pub fn new_leaf(desk: &[u8]) -> u16
     requires { OpenDesk desk.now }
-    ensures { finish_result ≡ new_leaf desk.now }
+    ensures { result ≡ new_leaf desk.now }
 {
     words::get16(desk, desk::shape_of(desk).c_at() + desk::NEW_LEAF_IN)
 }
 
 pub fn record_asked(desk: &[u8]) -> &[u8]
     requires { OpenDesk desk.now }
-    ensures { finish_result.now ≡ record_asked desk.now }
+    ensures { result.now ≡ record_asked desk.now }
 {
     let a = desk::shape_of(desk).c_at() + desk::REQUEST_HEAD;
     let e = a + Sizes::RECORD;
@@ -51,7 +51,7 @@ pub fn record_asked(desk: &[u8]) -> &[u8]
 
 // Whether a record is handed out: for a read of a marked id.
 pub fn is_found(kind: Kind, marked: bool) -> bool
-    ensures { finish_result ≡ is_found kind marked }
+    ensures { result ≡ is_found kind marked }
 {
     match kind {
         Kind::Read => marked,
@@ -61,7 +61,7 @@ pub fn is_found(kind: Kind, marked: bool) -> bool
 
 // Whether there is a block to place: a read of an id that was never written has none.
 pub fn is_there(kind: Kind, marked: bool) -> bool
-    ensures { finish_result ≡ is_there kind marked }
+    ensures { result ≡ is_there kind marked }
 {
     match kind {
         Kind::Read => marked,
@@ -70,7 +70,7 @@ pub fn is_there(kind: Kind, marked: bool) -> bool
 }
 
 pub fn mark_for(kind: Kind, marked: bool) -> u8
-    ensures { finish_result ≡ mark_for kind marked }
+    ensures { result ≡ mark_for kind marked }
 {
     if is_there(kind, marked) {
         return 1;
@@ -79,7 +79,7 @@ pub fn mark_for(kind: Kind, marked: bool) -> u8
 }
 
 pub fn answer_for(kind: Kind, marked: bool) -> Finished
-    ensures { finish_result ≡ answer_for kind marked }
+    ensures { result ≡ answer_for kind marked }
 {
     if is_found(kind, marked) {
         return Finished::Record;
@@ -94,7 +94,7 @@ pub fn answer_for(kind: Kind, marked: bool) -> Finished
 pub fn carried<'a>(desk: &'a [u8], w: &'a [u8], v: View, n: usize) -> &'a [u8]
     requires open_desk { OpenDesk desk.now × ((v ≡ view_of desk.now) × (n ≤ suc v.sizes.height)) }
     requires w_len { length w.now ≡ most_path }
-    ensures { (path : List ℕ) → Reached v path n → Unsealed v path n w.now → finish_result.now ≡ carried_of desk.now path }
+    ensures { (path : List ℕ) → Reached v path n → Unsealed v path n w.now → result.now ≡ carried_of desk.now path }
 {
     if is_found(kind_asked(desk), was_marked(desk)) {
         return opening::lookup(desk, w, v, n, opening::id_asked(desk));
