@@ -7,7 +7,7 @@ use Rattle.store.proofs.finish.Goals as goal
 pub finish_open-requires : goal.finish_open-requires
 finish_open-requires c =
     let a = c.args in
-    let e = entered a.desk.now a.path.now a.«record».now (sym c.entry_checked-checked.ensures ∙ c.in-Done.is) (omega (arith, c.type_inv.desk 42)) in
+    let e = entered a.desk.now a.path.now a.«record».now (sym c.entry_checked-checked.ensures ∙ c.in-Done.is) (omega (arith, c.slice_known-1.given 42)) in
     record { open_desk = e.0; path_len = e.1 }
 
 pub returns-in-Refused : goal.returns-in-Refused
