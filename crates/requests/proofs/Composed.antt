@@ -28,11 +28,11 @@ use Rattle.requests.specs.Request.{RequestResult, requested, is_refused, put_unl
 
 -- ---- finish, then put
 
-module _ (s : Sizes) (leaf : ℕ) (tree : List ℕ) {a : Finished} {d p b : List ℕ} {f : finish.FinishResult} (e : finish.result a d p b ≡ f) where
+module _ (s : Sizes) (leaf : ℕ) (tree : List ℕ) {a : Finished} {d p b : List ℕ} {f : finish.FinishResult} (e : finish.finish_result a d p b ≡ f) where
   with-tree : {x : List ℕ} → x ≡ put_unless (is_refused a) tree (trees.put_of s leaf tree p).tree → requested (answered.Asked leaf a) d x p b ≡ returned s leaf tree f
   with-tree h = ap (λ (t : List ℕ). requested (answered.Asked leaf a) d t p b) h ∙ ap (returned s leaf tree) e
 
-  pub returned-put : {o : Outcome} {t : List ℕ} → is_refused a ≡ false → trees.result o t p ≡ trees.put_of s leaf tree p → requested (answered.Asked leaf a) d t p b ≡ returned s leaf tree f
+  pub returned-put : {o : Outcome} {t : List ℕ} → is_refused a ≡ false → trees.tree_result o t p ≡ trees.put_of s leaf tree p → requested (answered.Asked leaf a) d t p b ≡ returned s leaf tree f
   returned-put q h =
       with-tree (ap (λ (r : trees.TreeResult). r.tree) h ∙ sym (ap (λ (x : Bool). put_unless x tree (trees.put_of s leaf tree p).tree) q))
 
@@ -41,7 +41,7 @@ module _ (s : Sizes) (leaf : ℕ) (tree : List ℕ) {a : Finished} {d p b : List
 
 -- ---- fetch before that
 
-module _ (s : Sizes) (leaf : ℕ) (desk tree path buffer : List ℕ) {o : Outcome} {p : List ℕ} (e : trees.result o tree p ≡ trees.fetch_of s leaf tree path) where
+module _ (s : Sizes) (leaf : ℕ) (desk tree path buffer : List ℕ) {o : Outcome} {p : List ℕ} (e : trees.tree_result o tree p ≡ trees.fetch_of s leaf tree path) where
   fetched-by : {x : RequestResult} → x ≡ finished_by o s leaf desk tree p buffer → x ≡ fetched_for s leaf desk tree path buffer
   fetched-by h = h ∙ ap (λ (t : trees.TreeResult). finished_by t.answer s leaf desk tree t.path buffer) e
 
@@ -53,7 +53,7 @@ module _ (s : Sizes) (leaf : ℕ) (desk tree path buffer : List ℕ) {o : Outcom
 
 -- ---- ask before that
 
-module _ (desk tree path buffer : List ℕ) (kind : Kind) (id leaf : ℕ) {a : Asked} {d : List ℕ} (e : ask.result a d ≡ ask.ask_of desk kind id leaf buffer) where
+module _ (desk tree path buffer : List ℕ) (kind : Kind) (id leaf : ℕ) {a : Asked} {d : List ℕ} (e : ask.ask_result a d ≡ ask.ask_of desk kind id leaf buffer) where
   asked_by : {x : RequestResult} → x ≡ asked_for a d tree path buffer → x ≡ request_of desk tree path buffer kind id leaf
   asked_by h = h ∙ ap (λ (t : ask.AskResult). asked_for t.answer t.desk tree path buffer) e
 
@@ -65,4 +65,4 @@ module _ (desk tree path buffer : List ℕ) (kind : Kind) (id leaf : ℕ) {a : A
 
   -- the desk of an accepted ask is long enough to read its sizes
   pub ask-head : {position : ℕ} → a ≡ asked.Leaf position → b_at ≤ length desk
-  ask-head h = omega (arith, (known desk (ask-leaf desk kind id leaf buffer (sym (ap (λ (x : Asked). ask.result x d) h) ∙ e)).passed.good).size)
+  ask-head h = omega (arith, (known desk (ask-leaf desk kind id leaf buffer (sym (ap (λ (x : Asked). ask.ask_result x d) h) ∙ e)).passed.good).size)
