@@ -33,7 +33,7 @@ out : (c : tie.After-loop invariant-loop decreases-loop) → c.before.before.bef
 out c = omega arith
 
 within : (c : tie.In-loop invariant-loop decreases-loop) → (c.before.loop.id - c.before.before.before.before.before.before.before.args.first) * 64 + 64 ≤ length c.before.loop.sheet
-within c = let a = c.before.before.before.before.before.before.before.args in entry-within a.first a.end c.before.loop.id _ c.before.loop.invariant.0.from__first (low c) c.before.loop.invariant.0.long
+within c = let a = c.before.before.before.before.before.before.before.args in entry-within a.first a.end c.before.loop.id _ c.before.loop.invariant.0.from_first (low c) c.before.loop.invariant.0.long
 
 loop-holds : tie.Need-loop-init invariant-loop decreases-loop
 loop-holds c =
@@ -42,7 +42,7 @@ loop-holds c =
     (begun a.first a.end a.draws.now a.desk.now a.tree.now a.path.now a.sheet.now p.0 p.2, refl, refl, refl, refl)
 
 sub-i : tie.Need-overflow-sub-i invariant-loop decreases-loop
-sub-i c = c.before.loop.invariant.0.from__first
+sub-i c = c.before.loop.invariant.0.from_first
 
 cast-i : tie.Need-overflow-cast-i invariant-loop decreases-loop
 cast-i c = omega arith
@@ -54,7 +54,7 @@ mul-draw : tie.Need-overflow-mul-draw invariant-loop decreases-loop
 mul-draw c = omega arith
 
 shared-slice-read-draw : tie.Need-shared-slice-read-draw invariant-loop decreases-loop
-shared-slice-read-draw c = draw-there _ _ _ _ (low c.before) c.before.before.loop.invariant.0.from__first c.before.before.before.before.before.before.before.before.requires.1
+shared-slice-read-draw c = draw-there _ _ _ _ (low c.before) c.before.before.loop.invariant.0.from_first c.before.before.before.before.before.before.before.before.requires.1
 
 add-request-entry : tie.Need-overflow-add-request-entry invariant-loop decreases-loop
 add-request-entry c = omega (arith, within c.before.before.before.before)
