@@ -1,0 +1,13 @@
+-- `taking::take` meets its contract: at each turn, what is left to do comes to what the whole text is. Assumes nothing.
+use Prim.Native.Nat.{◌+◌, ◌-◌}
+use mathlib.Core.Path.{◌≡◌}
+use lib.ListN.{length}
+use Rattle.taking.specs.Taking.{take_into}
+use Rattle.taking.proofs.Turns.{SoFar}
+use Rattle.taking.proofs.take.Given as goal
+
+abbrev pub invariant-loop-from : goal.invariant-loop-from
+invariant-loop-from l = SoFar l.chapter l.year l.n l.text (take_into l.chapter l.year l.n l.initial.sheet l.text) l.from l.before l.planned l.sheet × (length l.sheet ≡ length l.initial.sheet)
+
+abbrev pub decreases-loop-from : goal.decreases-loop-from
+decreases-loop-from l = length l.text + 1 - l.from
