@@ -46,6 +46,7 @@ LEMMAS = {
     "placing/proofs/Placing.antt": ("same_block",),
     "placing/proofs/Rising.antt": ("same_block",),
     "promises/proofs/AnyTaps.antt": ("write_checked",),
+    "promises/proofs/TapsExist.antt": ("write_checked",),
     "returning/proofs/Entries.antt": ("is_said",),
     "returning/proofs/Heads.antt": ("plan_after",),
 }

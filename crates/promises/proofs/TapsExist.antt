@@ -31,7 +31,7 @@ use Rattle.promises.specs.Stores.{Start, format_for}
 use Rattle.promises.specs.Exists.{Proper}
 use Rattle.promises.specs.Taps.{table_sheet}
 use Rattle.promises.proofs.Stands.{none-some}
-use Rattle.promises.proofs.AnyTaps.{text-decides, write_checked}
+use Rattle.promises.proofs.AnyTaps.{text-decides, write_checked_lem}
 use Rattle.promises.proofs.TableSheets.{table-entry}
 use Rattle.promises.proofs.TextSheets.{taken-long}
 use Rattle.promises.proofs.TapsWritten.{says-table}
@@ -94,7 +94,7 @@ module _ (b : Start) (lent : List ℕ) (p : Proper b lent) (room : 1 ≤ b.room)
     is-written : (write_of desk tree chapter id (id + 1) (draw ∷ []) out).answer ≡ printed.Length (length (text_of chapter n through.sheet))
     is-written =
         ap (λ (o : Outcome). (write_by o desk tree chapter id (id + 1) (draw ∷ []) out).answer)
-        (write_checked desk tree id (id + 1) (draw ∷ []) out (checked b lent p tree size id draw low high) (long ∙ ap room_of (sym (one-id id))))
+        (write_checked_lem desk tree id (id + 1) (draw ∷ []) out (checked b lent p tree size id draw low high) (long ∙ ap room_of (sym (one-id id))))
         ∙ ap (λ (o : Outcome). (printed_by o chapter n through out).answer) (passes (empty_sheet n) (omega (arith, length-zeros (n * record_len))))
 
     -- the table is empty
