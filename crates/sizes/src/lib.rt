@@ -1,5 +1,6 @@
 // Sizes: lengths and places on the server's side from the height and the slots of a bucket alone, the desk's length, and the refusals.
 #![tactic(auto)]
+
 ghost use Rattle.std.specs.Prelude.{◌≡◌, ◌+◌, ◌*◌, ◌^◌, ◌≤◌, ◌<◌};
 ghost use Rattle.sizes.specs.Sizes as spec;
 ghost use Rattle.sizes.specs.Places.{ItemAt, InnerAt, InTree};

@@ -1,6 +1,7 @@
 // Bytes as lists: numbers read and written at a place, bytes copied, cleared and compared. The definitions are in specs/;
 // the laws of them, which every crate above cites, in proofs/.
 #![tactic(auto)]
+
 ghost use Rattle.std.specs.Prelude.{◌≡◌, ◌+◌, ◌≤◌, ◌<◌, length};
 ghost use Rattle.words.specs.Bytes.{splice, zeros};
 ghost use Rattle.words.specs.Bytes as spec;

@@ -1,5 +1,4 @@
 -- `words::same` meets its contract: up to i the two agree, so that what is left decides. Assumes nothing.
-use Prim.Native.Nat.{◌-◌}
 use mathlib.Core.Path.{refl, sym, ◌∙◌}
 use native.Mathlib.Omega.{arith}
 use lib.ListN.{drop_of_length-le}
