@@ -1,5 +1,6 @@
 // Ask: opens a request in a desk and answers with the id's position, or refuses and changes nothing.
 #![tactic(auto)]
+
 ghost use Rattle.std.specs.Prelude.{◌≡◌, true, ◌+◌, ◌≤◌, length};
 ghost use Rattle.words.specs.Bytes.{splice};
 ghost use Rattle.desk.specs.Layout.{Whole, shape_of};

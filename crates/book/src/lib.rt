@@ -1,5 +1,6 @@
 // The verdict book above the store: verdicts in records, and a matrix row of them, read through the store id by id. Assumes nothing.
 #![tactic(auto)]
+
 ghost use Rattle.std.specs.Prelude.{◌≡◌, ◌+◌, ◌-◌, ◌≤◌, length};
 ghost use Rattle.verdicts.specs.Cells.{no_counts};
 ghost use Rattle.book.specs.MatrixRow.{row_checked, looked, read_of, ran, row_from, rowed, row_of};

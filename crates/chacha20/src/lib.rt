@@ -1,6 +1,7 @@
 // ChaCha20 (RFC 8439): bytes combined with a keystream of 64-byte blocks from block counter 0. Blocks are made one at a time, or five
 // at once where a text is long enough to need them. The definitions are in specs/, the laws that a caller needs in proofs/Cipher.antt.
 #![tactic(auto)]
+
 ghost use Rattle.std.specs.Prelude.{◌≡◌, ◌≤◌, length, bit_xor};
 ghost use Rattle.chacha20.specs.ChaCha as spec;
 

@@ -1,6 +1,7 @@
 // The published vectors of RFC 8439, run and compared: a line for each says what was compared. `apply` begins at block 0, so where a vector
 // begins at another, that many blocks of zeros stand before its text, and the bytes after them are compared.
 #![tactic(auto)]
+
 ghost use Rattle.std.specs.Prelude.{◌<◌};
 
 const BLOCK: usize = 64;

@@ -1,6 +1,7 @@
 // The desk: its layout, and when it is good. What a desk says, what can be changed in one, and the conditions are defined in specs/;
 // the laws that callers cite are in proofs/.
 #![tactic(auto)]
+
 use sizes::Sizes;
 
 // When the bodies (c), (d) and (e) are good.

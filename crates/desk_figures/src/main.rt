@@ -1,6 +1,7 @@
 // The paper's figures about format and ask that are run: each line says what was tried and what came out. The store has L 2, Z 1, S 2, N 3
 // and the starting leaves 3, 0, 1 where a line says nothing else. Assumes nothing.
 #![tactic(auto)]
+
 use asks::Asked;
 use desk::Kind;
 use sizes::{Outcome, Refusal};

@@ -1,5 +1,6 @@
 // The C interface: numbers and slices only. Every function takes all inputs; a refusal is its number, negative.
 #![tactic(auto)]
+
 ghost use Rattle.std.specs.Prelude.{◌≡◌, []};
 ghost use Rattle.std.specs.Int.{w32};
 ghost use Rattle.std.proofs.Common.{SFits};

@@ -1,5 +1,6 @@
 // Format: writes a good desk, whatever the buffer held before, or refuses and changes nothing.
 #![tactic(auto)]
+
 ghost use Rattle.std.specs.Prelude.{◌≡◌, ◌+◌, ◌≤◌, length};
 ghost use Rattle.words.specs.Bytes.{splice};
 ghost use Rattle.sizes.specs.Sizes.{d_len};

@@ -1,6 +1,7 @@
 // Gathering: every block that a finish meets goes into a bank, the requested one under its new leaf, and a plan says where each goes. Blocks of
 // the opened path and of the stash are copied there, so that the lent path and the stash in the desk can be written from it.
 #![tactic(auto)]
+
 ghost use Rattle.std.specs.Prelude.{◌≡◌, ◌+◌, ◌*◌, ◌≤◌, length, drop};
 ghost use Rattle.words.specs.Bytes.{splice};
 ghost use Rattle.sizes.specs.Sizes.{InRange, most_slots, record_len, slot_len, path_len};

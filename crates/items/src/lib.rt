@@ -1,5 +1,6 @@
 // One item of a path: its fields, its digest, its slots under the cipher. A path is lent as a slice that begins with it.
 #![tactic(auto)]
+
 ghost use Rattle.std.specs.Prelude.{◌≡◌, cond, ◌+◌, ◌≤◌, ◌<◌, length, eqb};
 ghost use Rattle.words.specs.Bytes.{part, splice, zeros, same};
 ghost use Rattle.sizes.specs.Sizes.{leaves, counter_len, digest_len, item_at, item_of};

@@ -1,5 +1,6 @@
 // What one line of the Test Anything Protocol, version 13, says. Assumes nothing.
 #![tactic(auto)]
+
 mod descriptions;
 mod directives;
 mod fronts;

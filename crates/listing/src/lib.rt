@@ -1,5 +1,6 @@
 // The listing's lines, written into a buffer from a place on; each function answers with the place after what it wrote. Assumes nothing.
 #![tactic(auto)]
+
 ghost use Rattle.std.specs.Prelude.{◌≡◌, ◌+◌, ◌≤◌, length};
 ghost use Rattle.sizes.specs.Sizes.{record_len};
 ghost use Rattle.text.specs.Text.{write_word, refused_word, record_word, header_line, bad_line};

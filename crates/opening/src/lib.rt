@@ -1,5 +1,6 @@
 // Finish, steps 1 and 2: what of a path is reachable, its slots opened into a working copy, the checks; and the lookup of an id.
 #![tactic(auto)]
+
 ghost use Rattle.std.specs.Prelude.{◌≡◌, suc, ◌≤◌, ◌<◌, length};
 ghost use Rattle.sizes.specs.Sizes.{InRange, leaves, path_len, most_path};
 ghost use Rattle.desk.specs.Readers.{id_asked};

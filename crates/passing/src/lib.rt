@@ -1,5 +1,6 @@
 // A sheet passed through the store, entry by entry. Assumes nothing.
 #![tactic(auto)]
+
 ghost use Rattle.std.specs.Prelude.{◌≡◌, ◌-◌, ◌*◌, ◌≤◌, length};
 ghost use Rattle.sizes.specs.declared.Outcome.TheVariants as outcome;
 ghost use Rattle.sizes.specs.Sizes.{record_len};

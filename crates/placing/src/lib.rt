@@ -1,6 +1,7 @@
 // Placing, step 5 of finish: which block goes where is planned before anything that was lent is written, so that Full is known first. The plan is
 // two small arrays: the blocks' places in a bank of slots by rising id, and for each the height of its bucket. `fill` lays the slots of one height.
 #![tactic(auto)]
+
 ghost use Rattle.std.specs.Prelude.{◌≡◌, ◌+◌, ◌*◌, ◌≤◌, length};
 ghost use Rattle.sizes.specs.Sizes.{InRange, most_ids, slot_len};
 ghost use Rattle.slots.specs.Slots.{blocks_of};

@@ -1,5 +1,6 @@
 // The text that says a sheet: a line for each entry that is a verdict of the chapter. The lines are in `print`. Assumes nothing.
 #![tactic(auto)]
+
 pub mod print;
 
 ghost use Rattle.std.specs.Prelude.{◌≡◌, ◌+◌, ◌*◌, ◌≤◌, ◌<◌, length};

@@ -1,5 +1,6 @@
 // One whole request against a lent tree: ask, fetch, finish, put.
 #![tactic(auto)]
+
 ghost use Rattle.std.specs.Prelude.{◌≤◌, ◌≡◌, length};
 ghost use Rattle.sizes.specs.Sizes.{sized};
 ghost use Rattle.desk.specs.Layout.{b_at};

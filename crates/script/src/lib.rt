@@ -1,5 +1,6 @@
 // A line of requests, `write ` or `read `, read; and the record that its text stands for. Each function goes by a line without its line feed. Assumes nothing.
 #![tactic(auto)]
+
 ghost use Rattle.std.specs.Prelude.{◌≡◌, ◌-◌, ◌≤◌, length};
 ghost use Rattle.desk.specs.declared.Kind.TheVariants.{Write};
 ghost use Rattle.sizes.specs.Sizes.{record_len};

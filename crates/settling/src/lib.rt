@@ -1,5 +1,6 @@
 // Finish, steps 4 and 6, on the desk: what an accepted request leaves there. Each function changes one part and keeps the desk's shape.
 #![tactic(auto)]
+
 ghost use Rattle.std.specs.Prelude.{◌≡◌, ◌≤◌, length};
 ghost use Rattle.sizes.specs.Sizes.{digest_len};
 ghost use Rattle.desk.specs.Layout.{Whole, ids_of, room_of};

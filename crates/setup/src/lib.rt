@@ -1,5 +1,6 @@
 // The script's first two lines, `store ` and `start `, read. Each function goes by a line without its line feed. Assumes nothing.
 #![tactic(auto)]
+
 ghost use Rattle.std.specs.Prelude.{◌≡◌, ◌≤◌, min, length};
 ghost use Rattle.setup.specs.Setup.{store_by, store_of, start_good, start_leaves};
 

@@ -2,6 +2,7 @@
 // i * 7 + 3 modulo 256, for each n from 0 to 200, at once and in three parts. What those are to be is read from standard input, a line of
 // 64 hexadecimal digits each, which another implementation gave. A line of output per vector. Assumes nothing.
 #![tactic(auto)]
+
 const LONGEST: usize = 200;
 
 const MESSAGES: usize = 201;

@@ -1,5 +1,6 @@
 // A sheet: a record's room for each number of a text of TAP, zeros where there is none. Assumes nothing.
 #![tactic(auto)]
+
 ghost use Rattle.std.specs.Prelude.{◌≡◌, length};
 ghost use Rattle.sizes.specs.Sizes.{record_len};
 ghost use Rattle.sheets.specs.Sheet.{is_record};

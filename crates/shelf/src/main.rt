@@ -1,5 +1,6 @@
 // shelf: standard input is a script, standard output its listing. Lines are found in `window` and read in `setup` and `script`, those of the listing written in `listing`; what a line does is in `runs`.
 #![tactic(auto)]
+
 mod turns;
 
 use runs::lengths;

@@ -1,5 +1,6 @@
 // Finish: the open request is answered over the path that the server handed back. Nothing lent is written before the last refusal is behind.
 #![tactic(auto)]
+
 ghost use Rattle.std.specs.Prelude.{◌≡◌, ℕ, ◌+◌, ◌≤◌, ◌<◌, length};
 ghost use Rattle.sizes.specs.Sizes.{leaves, path_len, record_len};
 ghost use Rattle.sizes.specs.Refusals.{first_of};

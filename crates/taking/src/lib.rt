@@ -1,5 +1,6 @@
 // A text of TAP, read line by line into a sheet. Assumes nothing.
 #![tactic(auto)]
+
 ghost use Rattle.std.specs.Prelude.{◌≡◌, true, ◌+◌, ◌*◌, ◌≤◌, ◌<◌, length};
 ghost use Rattle.sizes.specs.Sizes.{record_len};
 ghost use Rattle.verdicts.specs.Verdict.{can_be_read};

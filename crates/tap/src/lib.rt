@@ -1,5 +1,6 @@
 // TAP in and out: a text of the Test Anything Protocol read into the store for a range of ids of the verdict book, and the text that says the range. Assumes nothing.
 #![tactic(auto)]
+
 ghost use Rattle.std.specs.Prelude.{◌≡◌, ◌-◌};
 ghost use Rattle.sizes.specs.declared.Outcome.TheVariants as outcome;
 ghost use Rattle.book.specs.MatrixRow.{row_checked};

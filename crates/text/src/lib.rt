@@ -1,6 +1,7 @@
 // The text that scripts and listings are made of, on slices: what stands at a line's front. specs/Text.antt has the fixed byte strings,
 // specs/Fronts.antt says what is read. Assumes nothing.
 #![tactic(auto)]
+
 pub mod bytes;
 pub mod numbers;
 

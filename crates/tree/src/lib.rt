@@ -1,6 +1,7 @@
 // The tree's side: fetch copies the items of a leaf's path from tree to path, root first; put copies them back.
 // Both take every input, and refuse before a byte is written.
 #![tactic(auto)]
+
 ghost use Rattle.std.specs.Prelude.{◌≡◌, suc};
 ghost use Rattle.sizes.specs.Sizes.{sized};
 ghost use Rattle.tree.specs.Tree.{Fits, tree_checked, fetched, put_back, fetch_of, put_of, tree_result};

@@ -1,5 +1,6 @@
 // A verdict in a record: verdict, chapter, suite year, and a name that zeros follow. Assumes nothing.
 #![tactic(auto)]
+
 ghost use Rattle.std.specs.Prelude.{◌≡◌, ◌≤◌, length};
 ghost use Rattle.sizes.specs.Sizes.{record_len};
 ghost use Rattle.verdicts.specs.Verdict.{most_name, verdict_number, is_verdict, verdict_of, is_padded, reading_of, can_be_read, head_of, record_of, make_of, making};

@@ -1,5 +1,6 @@
 // A script that is read in pieces: the unread text stands in a window from `from` up to `to`. Assumes nothing.
 #![tactic(auto)]
+
 ghost use Rattle.std.specs.Prelude.{◌≡◌, ◌-◌, ◌≤◌, length};
 ghost use Rattle.words.specs.Bytes.{part, splice};
 ghost use Rattle.window.specs.Pieces.{next_of, Ahead};

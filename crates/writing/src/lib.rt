@@ -1,6 +1,7 @@
 // Finish, step 6: the new items of a path, from the leaf up. The plain slots of each come from `new`, a buffer laid out as the path is, whose
 // other bytes are not looked at. `n` is the number of reachable items, which are the first ones.
 #![tactic(auto)]
+
 ghost use Rattle.std.specs.Prelude.{◌≡◌, ◌<◌, ◌≤◌, [], ◌++◌, length, nat_lt};
 ghost use Rattle.words.specs.Bytes.{splice};
 ghost use Rattle.words.specs.Numbers.{bytes_of};

@@ -10,14 +10,14 @@ pub position-position-requires : goal.position-position-requires
 position-position-requires c =
     let passed : let a = c.args in AskPassed a.desk.now a.kind a.id a.leaf a.«record».now = ask-passed (sym c.ask_checked-checked.ensures ∙ c.in-Done.is) in
     let whole : Whole c.args.desk.now = let p = passed in
-        record { size = p.known.size; small = good-small c.args.desk.now p.good (omega (arith, c.slice_known-1.given room_at)) } in
+    record { size = p.known.size; small = good-small c.args.desk.now p.good (omega (arith, c.slice_known-1.given room_at)) } in
     let p = passed in (whole, (p.id_low, p.id_high))
 
 pub open_request-requires : goal.open_request-requires
 open_request-requires c =
     let passed : let a = c.args in AskPassed a.desk.now a.kind a.id a.leaf a.«record».now = ask-passed (sym c.ask_checked-checked.ensures ∙ c.in-Done.is) in
     let whole : Whole c.args.desk.now = let p = passed in
-        record { size = p.known.size; small = good-small c.args.desk.now p.good (omega (arith, c.slice_known-1.given room_at)) } in
+    record { size = p.known.size; small = good-small c.args.desk.now p.good (omega (arith, c.slice_known-1.given room_at)) } in
     (whole, passed.fits)
 
 pub returns-in-Refused : goal.returns-in-Refused

@@ -47,7 +47,7 @@ returns-then-not-are_leaves c =
     let in-range : let a = c.args in (sizes_good (sized a.height a.slots) && ids_good a.ids) ≡ true = sym range-is ∙ c.if-not-in_range.false in
     let length-is : let a = c.args in c.len.result ≡ desk_len a.ids a.stash = c.len.ensures ∙ ap shape_len c.new_shape.ensures in
     let leaves-are : let a = c.args in c.are_leaves.result ≡ are_leaves (leaves (sized a.height a.slots)) a.leaves.now = let a = c.args in
-        c.are_leaves.ensures ∙ ap (λ (m : ℕ). are_leaves m a.leaves.now) (c.leaves.ensures.0 ∙ ap leaves c.of-sizes.ensures) in
+    c.are_leaves.ensures ∙ ap (λ (m : ℕ). are_leaves m a.leaves.now) (c.leaves.ensures.0 ∙ ap leaves c.of-sizes.ensures) in
     rw (in-range, ← length-is, c.if-not-fit.false, sym leaves-are ∙ c.if-not-are_leaves.true)
 
 pub returns : goal.returns
@@ -57,5 +57,5 @@ returns c =
     let in-range : let a = c.args in (sizes_good (sized a.height a.slots) && ids_good a.ids) ≡ true = sym range-is ∙ c.if-not-in_range.false in
     let length-is : let a = c.args in c.len.result ≡ desk_len a.ids a.stash = c.len.ensures ∙ ap shape_len c.new_shape.ensures in
     let leaves-are : let a = c.args in c.are_leaves.result ≡ are_leaves (leaves (sized a.height a.slots)) a.leaves.now = let a = c.args in
-        c.are_leaves.ensures ∙ ap (λ (m : ℕ). are_leaves m a.leaves.now) (c.leaves.ensures.0 ∙ ap leaves c.of-sizes.ensures) in
+    c.are_leaves.ensures ∙ ap (λ (m : ℕ). are_leaves m a.leaves.now) (c.leaves.ensures.0 ∙ ap leaves c.of-sizes.ensures) in
     rw (in-range, ← length-is, c.if-not-fit.false, sym leaves-are ∙ c.if-not-are_leaves.false)

@@ -16,8 +16,7 @@ loop-i-init c = (search rules, (refl, sym (splice-nil _ _)))
 
 pub loop-i-preserved : goal.loop-i-preserved
 loop-i-preserved c =
-    let l = c.loop-i in
-    (
+    let l = c.loop-i in (
       search rules,
       (
         c.put_place.auto.dst ∙ l.invariant.1.0,

@@ -33,12 +33,12 @@ pub returns-then-not-printed : goal.returns-then-not-printed
 returns-then-not-printed c =
     let reading : reading_of c.args.entry.now ≡ Good c.in-Good.says = sym c.read.ensures ∙ c.in-Good.is in
     let name_is : let s = c.args.entry.now in let e = c.in-Good.says in take (name_at + e.length - name_at) (drop name_at s) ≡ name_in s e = let k : name_at + c.in-Good.says.length - name_at ≡ c.in-Good.says.length = omega arith in
-        ap (λ (n : ℕ). take n (drop name_at c.args.entry.now)) k in
+    ap (λ (n : ℕ). take n (drop name_at c.args.entry.now)) k in
     let printable : c.is_printable.result ≡ is_printable (name_in c.args.entry.now c.in-Good.says) = c.is_printable.ensures ∙ ap is_printable name_is in
     let no_line : let a = c.args in entry_text a.chapter a.number a.entry.now ≡ [] = let a = c.args in
-        let e = c.in-Good.says in
-        let h : (eqb e.chapter a.chapter && c.is_printable.result) ≡ false = c.if-not-printed.true in
-        entry-none a.chapter a.number a.entry.now e reading printable h in
+    let e = c.in-Good.says in
+    let h : (eqb e.chapter a.chapter && c.is_printable.result) ≡ false = c.if-not-printed.true in
+    entry-none a.chapter a.number a.entry.now e reading printable h in
     (rw no_line (wrote_none _ _), omega arith)
 
 pub slice_bounds-put_verdict-end : goal.slice_bounds-put_verdict-end
@@ -65,11 +65,11 @@ pub returns-else-not-printed : goal.returns-else-not-printed
 returns-else-not-printed c =
     let reading : reading_of c.args.entry.now ≡ Good c.in-Good.says = sym c.read.ensures ∙ c.in-Good.is in
     let name_is : let s = c.args.entry.now in let e = c.in-Good.says in take (name_at + e.length - name_at) (drop name_at s) ≡ name_in s e = let k : name_at + c.in-Good.says.length - name_at ≡ c.in-Good.says.length = omega arith in
-        ap (λ (n : ℕ). take n (drop name_at c.args.entry.now)) k in
+    ap (λ (n : ℕ). take n (drop name_at c.args.entry.now)) k in
     let printable : c.is_printable.result ≡ is_printable (name_in c.args.entry.now c.in-Good.says) = c.is_printable.ensures ∙ ap is_printable name_is in
     let line : let a = c.args in let e = c.in-Good.says in entry_text a.chapter a.number a.entry.now ≡ verdict_text a.number e.verdict (name_in a.entry.now e) = let a = c.args in
-        let e = c.in-Good.says in
-        let h : (eqb e.chapter a.chapter && c.is_printable.result) ≡ true = c.if-not-printed.false in
-        entry-line a.chapter a.number a.entry.now e reading printable h in
+    let e = c.in-Good.says in
+    let h : (eqb e.chapter a.chapter && c.is_printable.result) ≡ true = c.if-not-printed.false in
+    entry-line a.chapter a.number a.entry.now e reading printable h in
     let w = c.put_verdict.ensures.0 in
     (rw line (rw name_is at w), c.put_verdict.ensures.1)

@@ -14,46 +14,46 @@ set_place-requires c = c.requires.whole
 pub set_stash-requires : goal.set_stash-requires
 set_stash-requires c =
     let placed-whole : Whole c.set_place.new.desk = let a = c.args in
-        let p = c.requires.whole in
-        rw c.set_place.ensures (place-whole a.desk.now p.0 a.id a.leaf a.mark p.1.0 p.1.1) in
+    let p = c.requires.whole in
+    rw c.set_place.ensures (place-whole a.desk.now p.0 a.id a.leaf a.mark p.1.0 p.1.1) in
     let placed-room : room_of c.set_place.new.desk ≡ room_of c.args.desk.now = let a = c.args in
-        let p = c.requires.whole in
-        rw c.set_place.ensures (place-room a.desk.now p.0 a.id a.leaf a.mark p.1.0 p.1.1) in
+    let p = c.requires.whole in
+    rw c.set_place.ensures (place-room a.desk.now p.0 a.id a.leaf a.mark p.1.0 p.1.1) in
     let p = c.requires in
     let r = placed-room in record { whole = (placed-whole, omega (arith, p.over_bound.0)); places_in_bounds = p.places_in_bounds; places_len = p.held.count }
 
 pub set_root-requires : goal.set_root-requires
 set_root-requires c =
     let placed-whole : Whole c.set_place.new.desk = let a = c.args in
-        let p = c.requires.whole in
-        rw c.set_place.ensures (place-whole a.desk.now p.0 a.id a.leaf a.mark p.1.0 p.1.1) in
+    let p = c.requires.whole in
+    rw c.set_place.ensures (place-whole a.desk.now p.0 a.id a.leaf a.mark p.1.0 p.1.1) in
     let placed-room : room_of c.set_place.new.desk ≡ room_of c.args.desk.now = let a = c.args in
-        let p = c.requires.whole in
-        rw c.set_place.ensures (place-room a.desk.now p.0 a.id a.leaf a.mark p.1.0 p.1.1) in
+    let p = c.requires.whole in
+    rw c.set_place.ensures (place-room a.desk.now p.0 a.id a.leaf a.mark p.1.0 p.1.1) in
     let stashed-whole : Whole c.set_stash.new.desk = let a = c.args in
-        let p = c.requires in
-        let k = p.held in
-        let r = placed-room in
-        rw c.set_stash.ensures
-        (stash-whole c.set_place.new.desk placed-whole (pick a.h a.at.now (blocks_at a.bank.now a.places.now)) k.fit
-        (omega (arith, k.count, p.over_bound.0))) in
+    let p = c.requires in
+    let k = p.held in
+    let r = placed-room in
+    rw c.set_stash.ensures
+    (stash-whole c.set_place.new.desk placed-whole (pick a.h a.at.now (blocks_at a.bank.now a.places.now)) k.fit
+    (omega (arith, k.count, p.over_bound.0))) in
     stashed-whole
 
 pub close-requires : goal.close-requires
 close-requires c =
     let placed-whole : Whole c.set_place.new.desk = let a = c.args in
-        let p = c.requires.whole in
-        rw c.set_place.ensures (place-whole a.desk.now p.0 a.id a.leaf a.mark p.1.0 p.1.1) in
+    let p = c.requires.whole in
+    rw c.set_place.ensures (place-whole a.desk.now p.0 a.id a.leaf a.mark p.1.0 p.1.1) in
     let placed-room : room_of c.set_place.new.desk ≡ room_of c.args.desk.now = let a = c.args in
-        let p = c.requires.whole in
-        rw c.set_place.ensures (place-room a.desk.now p.0 a.id a.leaf a.mark p.1.0 p.1.1) in
+    let p = c.requires.whole in
+    rw c.set_place.ensures (place-room a.desk.now p.0 a.id a.leaf a.mark p.1.0 p.1.1) in
     let stashed-whole : Whole c.set_stash.new.desk = let a = c.args in
-        let p = c.requires in
-        let k = p.held in
-        let r = placed-room in
-        rw c.set_stash.ensures
-        (stash-whole c.set_place.new.desk placed-whole (pick a.h a.at.now (blocks_at a.bank.now a.places.now)) k.fit
-        (omega (arith, k.count, p.over_bound.0))) in
+    let p = c.requires in
+    let k = p.held in
+    let r = placed-room in
+    rw c.set_stash.ensures
+    (stash-whole c.set_place.new.desk placed-whole (pick a.h a.at.now (blocks_at a.bank.now a.places.now)) k.fit
+    (omega (arith, k.count, p.over_bound.0))) in
     let rooted-whole : Whole c.set_root.new.desk = rw c.set_root.ensures (root-whole c.set_stash.new.desk stashed-whole c.args.root.now c.requires.over_bound.1) in
     rooted-whole
 

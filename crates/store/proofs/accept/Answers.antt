@@ -23,7 +23,7 @@ settle-requires c =
 pub returns : goal.returns
 returns c =
     let holds_at : let a = c.args in (placed : List (List Block)) → Placed a.v.sizes a.at.now (blocks_at a.bank.now a.places.now) placed → Holds a.v c.lay.new.w placed = λ placed p k h. let s = c.args.v.sizes in
-        c.lay.ensures k (omega arith) ∙ ap (slots_with s.slots) (p (s.height - k) (omega arith)) in
+    c.lay.ensures k (omega arith) ∙ ap (slots_with s.slots) (p (s.height - k) (omega arith)) in
     let a = c.args in
     record {
       path_is = λ placed p. c.write_path-root.ensures.path_is placed (holds_at placed p);

@@ -12,14 +12,14 @@ use Rattle.verdicts.proofs.read_whole.Goals as goal
 pub returns-then-not-good : goal.returns-then-not-good
 returns-then-not-good c =
     let tests : let a = c.args.«record».now in (c.is_verdict.result && leb (get_or a chapter_at 0) most_chapter && c.is_padded.result) ≡ good_record a = let a = c.args.«record».now in
-        tests-are a _ c.requires (ap (λ (n : ℕ). part a name_at (n - name_at)) c.requires) c.before-length.ensures.0 c.is_verdict.ensures c.is_padded.ensures in
+    tests-are a _ c.requires (ap (λ (n : ℕ). part a name_at (n - name_at)) c.requires) c.before-length.ensures.0 c.is_verdict.ensures c.is_padded.ensures in
     sym (reading-bad _ (sym tests ∙ c.if-not-good.true))
 
 pub returns : goal.returns
 unfolding entry_in
 returns c =
     let tests : let a = c.args.«record».now in (c.is_verdict.result && leb (get_or a chapter_at 0) most_chapter && c.is_padded.result) ≡ good_record a = let a = c.args.«record».now in
-        tests-are a _ c.requires (ap (λ (n : ℕ). part a name_at (n - name_at)) c.requires) c.before-length.ensures.0 c.is_verdict.ensures c.is_padded.ensures in
+    tests-are a _ c.requires (ap (λ (n : ℕ). part a name_at (n - name_at)) c.requires) c.before-length.ensures.0 c.is_verdict.ensures c.is_padded.ensures in
     let a = c.args.«record».now in
     let n = length-is a _ c.requires (ap (λ (n : ℕ). part a name_at (n - name_at)) c.requires) c.before-length.ensures.0 in
     rw (c.verdict_of.ensures, c.get16.ensures, n) (sym (reading-good a (sym tests ∙ c.if-not-good.false)))

@@ -15,8 +15,8 @@ loop-k-init c =
 pub write_item-requires : goal.write_item-requires
 write_item-requires c =
     let climbed-at : let l = c.loop-k in Climbed c.args.v c.args.path.now c.args.new.now l.path l.d (suc (l.k - 1)) = let l = c.loop-k in
-        let e : l.k ≡ suc (l.k - 1) = omega arith in
-        subst (λ (i : ℕ). Climbed c.args.v c.args.path.now c.args.new.now l.path l.d i) e l.invariant.1.1 in
+    let e : l.k ≡ suc (l.k - 1) = omega arith in
+    subst (λ (i : ℕ). Climbed c.args.v c.args.path.now c.args.new.now l.path l.d i) e l.invariant.1.1 in
     let a = c.args in
     let l = c.loop-k in
     let s = a.v.sizes in
@@ -32,8 +32,8 @@ item_digest-above-requires c =
 pub loop-k-preserved : goal.loop-k-preserved
 loop-k-preserved c =
     let climbed-at : let l = c.loop-k in Climbed c.args.v c.args.path.now c.args.new.now l.path l.d (suc (l.k - 1)) = let l = c.loop-k in
-        let e : l.k ≡ suc (l.k - 1) = omega arith in
-        subst (λ (i : ℕ). Climbed c.args.v c.args.path.now c.args.new.now l.path l.d i) e l.invariant.1.1 in
+    let e : l.k ≡ suc (l.k - 1) = omega arith in
+    subst (λ (i : ℕ). Climbed c.args.v c.args.path.now c.args.new.now l.path l.d i) e l.invariant.1.1 in
     let a = c.args in
     let l = c.loop-k in
     let j = l.k - 1 in (

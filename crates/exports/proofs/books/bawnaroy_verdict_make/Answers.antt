@@ -16,15 +16,15 @@ returns-then-not-is_verdict c =
 pub returns-then-not-make : goal.returns-then-not-make
 returns-then-not-make c =
     let of-it : let a = c.args in made_of a.«record».now a.verdict a.chapter a.year a.name.now ≡ making c.make.result c.make.new.record = let a = c.args in
-        of-verdict a.«record».now a.verdict a.chapter a.year a.name.now (sym c.is_verdict.ensures ∙ c.if-not-is_verdict.false)
-        ∙ ap (λ (v : Verdict). make_of a.«record».now v a.chapter a.year a.name.now) (sym c.verdict_of-v.ensures)
-        ∙ sym c.make.ensures in
+    of-verdict a.«record».now a.verdict a.chapter a.year a.name.now (sym c.is_verdict.ensures ∙ c.if-not-is_verdict.false)
+    ∙ ap (λ (v : Verdict). make_of a.«record».now v a.chapter a.year a.name.now) (sym c.verdict_of-v.ensures)
+    ∙ sym c.make.ensures in
     not_made c.args.verdict (of-it ∙ ap (λ (k : Bool). making k c.make.new.record) (c.if-not-make.true))
 
 pub returns : goal.returns
 returns c =
     let of-it : let a = c.args in made_of a.«record».now a.verdict a.chapter a.year a.name.now ≡ making c.make.result c.make.new.record = let a = c.args in
-        of-verdict a.«record».now a.verdict a.chapter a.year a.name.now (sym c.is_verdict.ensures ∙ c.if-not-is_verdict.false)
-        ∙ ap (λ (v : Verdict). make_of a.«record».now v a.chapter a.year a.name.now) (sym c.verdict_of-v.ensures)
-        ∙ sym c.make.ensures in
+    of-verdict a.«record».now a.verdict a.chapter a.year a.name.now (sym c.is_verdict.ensures ∙ c.if-not-is_verdict.false)
+    ∙ ap (λ (v : Verdict). make_of a.«record».now v a.chapter a.year a.name.now) (sym c.verdict_of-v.ensures)
+    ∙ sym c.make.ensures in
     made c.args.verdict (search rules) (of-it ∙ ap (λ (k : Bool). making k c.make.new.record) (c.if-not-make.false))

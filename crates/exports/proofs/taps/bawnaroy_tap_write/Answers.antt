@@ -13,14 +13,14 @@ use Rattle.exports.proofs.taps.bawnaroy_tap_write.Goals as goal
 pub overflow_cast-result : goal.overflow_cast-result
 overflow_cast-result c =
     let small : c.in-Length.n < 2 ^ 31 = write-short _ _ _ _ _ _ _ _ _ _ _ (omega (arith, c.ranges.end)) c.write.auto.out
-        c.in-Length.is c.write.ensures in
+    c.in-Length.is c.write.ensures in
     plus-fits c.in-Length.n small
 
 pub returns-in-Length : goal.returns-in-Length
 unfolding printed_code
 returns-in-Length c =
     let small : c.in-Length.n < 2 ^ 31 = write-short _ _ _ _ _ _ _ _ _ _ _ (omega (arith, c.ranges.end)) c.write.auto.out
-        c.in-Length.is c.write.ensures in
+    c.in-Length.is c.write.ensures in
     let e = c.write.ensures in
     record {
       number_is = to_z_pos w32 small ∙ sym (ap printed_code c.in-Length.is) ∙ ap (λ (t : WriteResult). printed_code t.answer) e;

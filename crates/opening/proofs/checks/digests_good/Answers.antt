@@ -22,7 +22,7 @@ loop-k-init c = (omega arith, all_none _)
 pub returns-then-not-is_due : goal.returns-then-not-is_due
 returns-then-not-is_due c =
     let fitted : let a = c.args in c.is_due.result ≡ fits a.v a.path.now c.loop-k.k = let a = c.args in
-        c.is_due.ensures ∙ ap (λ (d : List ℕ). same d (digest_due a.v a.path.now c.loop-k.k)) c.item_digest-d.ensures in
+    c.is_due.ensures ∙ ap (λ (d : List ℕ). same d (digest_due a.v a.path.now c.loop-k.k)) c.item_digest-d.ensures in
     let a = c.args in
     let l = c.loop-k in
     sym (reached-fail a.v a.path.now a.n c.requires.1 (fits a.v a.path.now) _ (omega arith) l.k c.loop-k-test.true (omega arith) (sym fitted ∙ c.if-not-is_due.true))
@@ -30,7 +30,7 @@ returns-then-not-is_due c =
 pub loop-k-preserved : goal.loop-k-preserved
 loop-k-preserved c =
     let fitted : let a = c.args in c.is_due.result ≡ fits a.v a.path.now c.loop-k.k = let a = c.args in
-        c.is_due.ensures ∙ ap (λ (d : List ℕ). same d (digest_due a.v a.path.now c.loop-k.k)) c.item_digest-d.ensures in
+    c.is_due.ensures ∙ ap (λ (d : List ℕ). same d (digest_due a.v a.path.now c.loop-k.k)) c.item_digest-d.ensures in
     let a = c.args in
     (omega arith, all_more (fits a.v a.path.now) _ c.loop-k.invariant.1 (sym fitted ∙ c.if-not-is_due.false))
 

@@ -29,15 +29,15 @@ slots-requires c =
 pub record_in-r-requires : goal.record_in-r-requires
 record_in-r-requires c =
     let held-long : let a = c.args in length (slots_of a.v.sizes (item a.v a.w.now c.loop-k.k)) ≡ slots_len a.v.sizes = let a = c.args in
-        let p = c.requires in
-        carried-slots a.v.sizes a.w.now c.loop-k.k (copy-carries a.desk.now p.open_desk.0 a.v a.w.now p.open_desk.1.0 p.w_len.0) (omega (arith, p.open_desk.1.1, c.loop-k-test.true)) in
+    let p = c.requires in
+    carried-slots a.v.sizes a.w.now c.loop-k.k (copy-carries a.desk.now p.open_desk.0 a.v a.w.now p.open_desk.1.0 p.w_len.0) (omega (arith, p.open_desk.1.1, c.loop-k-test.true)) in
     let e = held-long in let f = ap length c.slots.ensures in omega arith
 
 pub returns-then-r-ne0 : goal.returns-then-r-ne0
 returns-then-r-ne0 c =
     let found_in : let a = c.args in c.record_in-r.result.now ≡ lookup a.id (slots_held (view_of a.desk.now) a.w.now c.loop-k.k) = let a = c.args in
-        c.record_in-r.ensures ∙ ap (λ (xs : List ℕ). lookup a.id (blocks_of a.v.sizes.slots xs)) c.slots.ensures
-        ∙ ap (λ (v : View). lookup a.id (slots_held v a.w.now c.loop-k.k)) c.requires.open_desk.1.0 in
+    c.record_in-r.ensures ∙ ap (λ (xs : List ℕ). lookup a.id (blocks_of a.v.sizes.slots xs)) c.slots.ensures
+    ∙ ap (λ (v : View). lookup a.id (slots_held v a.w.now c.loop-k.k)) c.requires.open_desk.1.0 in
     let a = c.args in
     let e = c.requires.open_desk.1.0 in
     let l = c.loop-k in
@@ -50,11 +50,11 @@ returns-then-r-ne0 c =
 pub loop-k-preserved : goal.loop-k-preserved
 loop-k-preserved c =
     let found_in : let a = c.args in c.record_in-r.result.now ≡ lookup a.id (slots_held (view_of a.desk.now) a.w.now c.loop-k.k) = let a = c.args in
-        c.record_in-r.ensures ∙ ap (λ (xs : List ℕ). lookup a.id (blocks_of a.v.sizes.slots xs)) c.slots.ensures
-        ∙ ap (λ (v : View). lookup a.id (slots_held v a.w.now c.loop-k.k)) c.requires.open_desk.1.0 in
+    c.record_in-r.ensures ∙ ap (λ (xs : List ℕ). lookup a.id (blocks_of a.v.sizes.slots xs)) c.slots.ensures
+    ∙ ap (λ (v : View). lookup a.id (slots_held v a.w.now c.loop-k.k)) c.requires.open_desk.1.0 in
     let held-long : let a = c.args in length (slots_of a.v.sizes (item a.v a.w.now c.loop-k.k)) ≡ slots_len a.v.sizes = let a = c.args in
-        let p = c.requires in
-        carried-slots a.v.sizes a.w.now c.loop-k.k (copy-carries a.desk.now p.open_desk.0 a.v a.w.now p.open_desk.1.0 p.w_len.0) (omega (arith, p.open_desk.1.1, c.loop-k-test.true)) in
+    let p = c.requires in
+    carried-slots a.v.sizes a.w.now c.loop-k.k (copy-carries a.desk.now p.open_desk.0 a.v a.w.now p.open_desk.1.0 p.w_len.0) (omega (arith, p.open_desk.1.1, c.loop-k-test.true)) in
     let a = c.args in
     let e = c.requires.open_desk.1.0 in
     let l = c.loop-k in

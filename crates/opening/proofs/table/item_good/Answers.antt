@@ -16,8 +16,8 @@ loop-j-init c = let a = c.args in ((omega arith, c.requires.slots_len.1), walked
 pub returns-then-not-slot_good : goal.returns-then-not-slot_good
 returns-then-not-slot_good c =
     let looked : (r : Bool) → c.slot_good.result ≡ r → let a = c.args in let j = c.loop-j.j in Looked a.desk.now a.k (block_by record_len (part a.slots.now (68 * j) (68 * j + 68 - 68 * j))) c.loop-j.seen c.slot_good.new.seen r = λ r e. let a = c.args in
-        let j = c.loop-j.j in
-        subst (λ (r : Bool). Looked a.desk.now a.k (block_by record_len (part a.slots.now (68 * j) (68 * j + 68 - 68 * j))) c.loop-j.seen c.slot_good.new.seen r) e c.slot_good.ensures in
+    let j = c.loop-j.j in
+    subst (λ (r : Bool). Looked a.desk.now a.k (block_by record_len (part a.slots.now (68 * j) (68 * j + 68 - 68 * j))) c.loop-j.seen c.slot_good.new.seen r) e c.slot_good.ensures in
     let a = c.args in
     let l = c.loop-j in
     walked-fails a.desk.now a.k record_len a.v.sizes.slots a.slots.now l.j (68 * l.j + 68 - 68 * l.j) a.seen.now l.seen c.slot_good.new.seen c.loop-j-test.true (omega arith) l.invariant.1
@@ -26,8 +26,8 @@ returns-then-not-slot_good c =
 pub loop-j-preserved : goal.loop-j-preserved
 loop-j-preserved c =
     let looked : (r : Bool) → c.slot_good.result ≡ r → let a = c.args in let j = c.loop-j.j in Looked a.desk.now a.k (block_by record_len (part a.slots.now (68 * j) (68 * j + 68 - 68 * j))) c.loop-j.seen c.slot_good.new.seen r = λ r e. let a = c.args in
-        let j = c.loop-j.j in
-        subst (λ (r : Bool). Looked a.desk.now a.k (block_by record_len (part a.slots.now (68 * j) (68 * j + 68 - 68 * j))) c.loop-j.seen c.slot_good.new.seen r) e c.slot_good.ensures in
+    let j = c.loop-j.j in
+    subst (λ (r : Bool). Looked a.desk.now a.k (block_by record_len (part a.slots.now (68 * j) (68 * j + 68 - 68 * j))) c.loop-j.seen c.slot_good.new.seen r) e c.slot_good.ensures in
     let a = c.args in
     let l = c.loop-j in (
       (omega arith, c.slot_good.auto.seen ∙ l.invariant.0.1),

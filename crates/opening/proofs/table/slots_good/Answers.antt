@@ -44,11 +44,11 @@ item_good-requires c =
 pub returns-then-not-item_good : goal.returns-then-not-item_good
 returns-then-not-item_good c =
     let walked : (r : Bool) → c.item_good.result ≡ r → let a = c.args in let l = c.loop-k in Walked a.desk.now l.k (slots_held (view_of a.desk.now) a.w.now l.k) l.seen c.item_good.new.seen r = λ r e. let a = c.args in
-        let l = c.loop-k in
-        let z = c.item_good.new.seen in
-        subst (λ (r : Bool). Walked a.desk.now l.k (slots_held (view_of a.desk.now) a.w.now l.k) l.seen z r) e
-        (subst (λ (v : View). Walked a.desk.now l.k (slots_held v a.w.now l.k) l.seen z c.item_good.result) c.requires.open_desk.1.0
-        (subst (λ (xs : List ℕ). Walked a.desk.now l.k (blocks_of a.v.sizes.slots xs) l.seen z c.item_good.result) c.slots.ensures c.item_good.ensures)) in
+    let l = c.loop-k in
+    let z = c.item_good.new.seen in
+    subst (λ (r : Bool). Walked a.desk.now l.k (slots_held (view_of a.desk.now) a.w.now l.k) l.seen z r) e
+    (subst (λ (v : View). Walked a.desk.now l.k (slots_held v a.w.now l.k) l.seen z c.item_good.result) c.requires.open_desk.1.0
+    (subst (λ (xs : List ℕ). Walked a.desk.now l.k (blocks_of a.v.sizes.slots xs) l.seen z c.item_good.result) c.slots.ensures c.item_good.ensures)) in
     let a = c.args in
     let o = c.requires.open_desk.0 in
     let e = c.requires.open_desk.1.0 in
@@ -60,11 +60,11 @@ returns-then-not-item_good c =
 pub loop-k-preserved : goal.loop-k-preserved
 loop-k-preserved c =
     let walked : (r : Bool) → c.item_good.result ≡ r → let a = c.args in let l = c.loop-k in Walked a.desk.now l.k (slots_held (view_of a.desk.now) a.w.now l.k) l.seen c.item_good.new.seen r = λ r e. let a = c.args in
-        let l = c.loop-k in
-        let z = c.item_good.new.seen in
-        subst (λ (r : Bool). Walked a.desk.now l.k (slots_held (view_of a.desk.now) a.w.now l.k) l.seen z r) e
-        (subst (λ (v : View). Walked a.desk.now l.k (slots_held v a.w.now l.k) l.seen z c.item_good.result) c.requires.open_desk.1.0
-        (subst (λ (xs : List ℕ). Walked a.desk.now l.k (blocks_of a.v.sizes.slots xs) l.seen z c.item_good.result) c.slots.ensures c.item_good.ensures)) in
+    let l = c.loop-k in
+    let z = c.item_good.new.seen in
+    subst (λ (r : Bool). Walked a.desk.now l.k (slots_held (view_of a.desk.now) a.w.now l.k) l.seen z r) e
+    (subst (λ (v : View). Walked a.desk.now l.k (slots_held v a.w.now l.k) l.seen z c.item_good.result) c.requires.open_desk.1.0
+    (subst (λ (xs : List ℕ). Walked a.desk.now l.k (blocks_of a.v.sizes.slots xs) l.seen z c.item_good.result) c.slots.ensures c.item_good.ensures)) in
     let a = c.args in
     let l = c.loop-k in (
       (omega arith, c.item_good.auto.seen ∙ l.invariant.0.1),

@@ -24,8 +24,8 @@ pub copy_slot-requires : goal.copy_slot-requires
 copy_slot-requires c =
     let left : ℕ → List Block = λ i. left_of c.args.h c.args.at.now c.args.bank.now c.args.places.now i in
     let hit : left c.loop-i.i ≡ block_in c.args.bank.now c.wide.result ∷ left (c.loop-i.i + 1) = let a = c.args in
-        left-hit a.h a.at.now a.bank.now a.places.now c.loop-i.i (omega arith) (omega arith) c.if-at-i.false
-        ∙ ap (λ (p : ℕ). block_in a.bank.now p ∷ left (c.loop-i.i + 1)) (sym c.wide.ensures.0) in
+    left-hit a.h a.at.now a.bank.now a.places.now c.loop-i.i (omega arith) (omega arith) c.if-at-i.false
+    ∙ ap (λ (p : ℕ). block_in a.bank.now p ∷ left (c.loop-i.i + 1)) (sym c.wide.ensures.0) in
     let inside : slot_len * c.wide.result + slot_len ≤ length c.args.bank.now = omega (arith, c.requires.places_in_bounds.1 c.loop-i.i (omega arith), c.wide.ensures.0) in
     let room : c.loop-i.k + slot_len ≤ length c.loop-i.dst = let l = c.loop-i in omega (arith, ap length hit, l.invariant.1, l.invariant.0.1, c.requires.places_in_bounds_2) in
     (room, inside)
@@ -35,8 +35,8 @@ unfolding block_in
 loop-i-preserved c =
     let left : ℕ → List Block = λ i. left_of c.args.h c.args.at.now c.args.bank.now c.args.places.now i in
     let hit : left c.loop-i.i ≡ block_in c.args.bank.now c.wide.result ∷ left (c.loop-i.i + 1) = let a = c.args in
-        left-hit a.h a.at.now a.bank.now a.places.now c.loop-i.i (omega arith) (omega arith) c.if-at-i.false
-        ∙ ap (λ (p : ℕ). block_in a.bank.now p ∷ left (c.loop-i.i + 1)) (sym c.wide.ensures.0) in
+    left-hit a.h a.at.now a.bank.now a.places.now c.loop-i.i (omega arith) (omega arith) c.if-at-i.false
+    ∙ ap (λ (p : ℕ). block_in a.bank.now p ∷ left (c.loop-i.i + 1)) (sym c.wide.ensures.0) in
     let inside : slot_len * c.wide.result + slot_len ≤ length c.args.bank.now = omega (arith, c.requires.places_in_bounds.1 c.loop-i.i (omega arith), c.wide.ensures.0) in
     let room : c.loop-i.k + slot_len ≤ length c.loop-i.dst = let l = c.loop-i in omega (arith, ap length hit, l.invariant.1, l.invariant.0.1, c.requires.places_in_bounds_2) in
     let l = c.loop-i in

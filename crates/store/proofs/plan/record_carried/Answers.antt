@@ -14,13 +14,13 @@ carried-requires c = let a = c.args in let y = c.requires in record { open_desk 
 pub copy-requires : goal.copy-requires
 copy-requires c =
     let carried-is : c.carried.result.now ≡ carried_of c.args.desk.now c.args.path.now = let a = c.args in
-        c.carried.ensures a.path.now (view-reached a.desk.now a.path.now a.v a.n a.w.now c.requires) (view-unsealed a.desk.now a.path.now a.v a.n a.w.now c.requires) in
+    c.carried.ensures a.path.now (view-reached a.desk.now a.path.now a.v a.n a.w.now c.requires) (view-unsealed a.desk.now a.path.now a.v a.n a.w.now c.requires) in
     let carried-length : length c.carried.result.now ≡ 64 = let a = c.args in ap length carried-is ∙ record-long a.desk.now a.path.now a.v a.n a.w.now c.requires in
     let e = carried-length in omega arith
 
 pub returns : goal.returns
 returns c =
     let carried-is : c.carried.result.now ≡ carried_of c.args.desk.now c.args.path.now = let a = c.args in
-        c.carried.ensures a.path.now (view-reached a.desk.now a.path.now a.v a.n a.w.now c.requires) (view-unsealed a.desk.now a.path.now a.v a.n a.w.now c.requires) in
+    c.carried.ensures a.path.now (view-reached a.desk.now a.path.now a.v a.n a.w.now c.requires) (view-unsealed a.desk.now a.path.now a.v a.n a.w.now c.requires) in
     let carried-length : length c.carried.result.now ≡ 64 = let a = c.args in ap length carried-is ∙ record-long a.desk.now a.path.now a.v a.n a.w.now c.requires in
     c.copy.ensures ∙ splice-whole (zeros 64) c.carried.result.now carried-length ∙ carried-is
