@@ -1,5 +1,5 @@
 -- The laws of `table`. Assumes nothing.
-use Rattle.std.proofs.Common.{◌≡◌, ℕ, zero, suc, ◌+◌, ◌<◌, List, [], ◌∷◌, ◌++◌, length, get_or, refl, ap, le_of_suc-le-suc, not-suc-le-zero, arith}
+use Rattle.std.proofs.Common.{◌≡◌, ℕ, zero, suc, ◌<◌, List, [], ◌∷◌, ◌++◌, length, get_or, refl, ap, le_of_suc-le-suc, not-suc-le-zero, arith}
 use Rattle.chacha20.specs.ChaCha.{zipped}
 use Rattle.chacha20.specs.Lanes.{table}
 

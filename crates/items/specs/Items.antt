@@ -1,5 +1,5 @@
 -- One item: its fields, the digest taken of it, its slots opened and sealed. Digest and cipher are parameters. Assumes nothing.
-use Rattle.std.specs.Prelude.{ℕ, ◌+◌, ◌-◌, ◌≤◌, ◌≡◌, cond, List, ◌++◌, length, get_or, take, eqb, ltb}
+use Rattle.std.specs.Prelude.{ℕ, ◌≤◌, ◌≡◌, cond, List, ◌++◌, length, get_or, take, eqb, ltb}
 use Rattle.words.specs.Bytes.{part, zeros}
 use Rattle.words.specs.Numbers.{number, bytes_of}
 use Rattle.sizes.specs.declared.Sizes.{Sizes}

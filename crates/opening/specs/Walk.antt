@@ -1,5 +1,5 @@
 -- The checks of the slots as a walk: slot after slot, with the blocks met so far, the stash first. Assumes nothing.
-use Rattle.std.specs.Prelude.{ℕ, suc, ◌+◌, ◌≤◌, ◌<◌, ◌≡◌, Bool, true, not, ◌&&◌, ◌||◌, List, [], ◌∷◌, ◌++◌, length, get_or, eqb}
+use Rattle.std.specs.Prelude.{ℕ, suc, ◌≤◌, ◌<◌, ◌≡◌, Bool, true, not, ◌&&◌, ◌||◌, List, [], ◌∷◌, ◌++◌, length, get_or, eqb}
 use Rattle.sizes.specs.Sizes.{most_ids, InRange, leaves, most_path}
 use Rattle.bags.specs.Bags.{cnt, those}
 use Rattle.slots.specs.Slots.{Block, is_used}

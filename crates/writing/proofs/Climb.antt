@@ -1,5 +1,5 @@
 -- One turn of the loop from the leaf up: what lies below is as it was, so the item is the one that step 6 makes of the path as it was lent. Assumes nothing.
-use Rattle.std.proofs.Common.{◌≡◌, ℕ, zero, suc, ◌+◌, ◌-◌, ◌*◌, ◌<◌, ◌≤◌, Bool, true, false, cond, ◌&&◌, eqb, ltb, List, [], ◌∷◌, ◌++◌, length, take, sym, refl, ap, ◌∙◌, ap₂, zero-add, arith, length-append, take-take, le-ltb, lt-ltb}
+use Rattle.std.proofs.Common.{◌≡◌, ℕ, zero, suc, ◌+◌, ◌*◌, ◌<◌, ◌≤◌, Bool, true, false, cond, ◌&&◌, eqb, ltb, List, [], ◌∷◌, ◌++◌, length, take, sym, refl, ap, ◌∙◌, ap₂, zero-add, arith, length-append, take-take, le-ltb, lt-ltb}
 use Rattle.words.specs.Bytes.{part, zeros}
 use Rattle.words.proofs.Splice.{part-part, length_part, length-zeros}
 use Rattle.words.proofs.Tests.{below_or}

@@ -1,5 +1,5 @@
 -- Counter and slots of an item: written plain, then under the cipher, they are the head that step 6 says. Assumes nothing.
-use Rattle.std.proofs.Common.{◌≡◌, ℕ, ◌+◌, ◌-◌, ◌*◌, ◌/◌, ◌%◌, ◌^◌, ◌≤◌, List, ◌++◌, length, sym, ap, ◌∙◌, ap₂, div-add-mod', arith, length-append}
+use Rattle.std.proofs.Common.{◌≡◌, ℕ, ◌+◌, ◌*◌, ◌/◌, ◌%◌, ◌^◌, ◌≤◌, List, ◌++◌, length, sym, ap, ◌∙◌, ap₂, div-add-mod', arith, length-append}
 use Rattle.words.specs.Bytes.{part, splice}
 use Rattle.words.specs.Numbers.{bytes_of}
 use Rattle.words.proofs.Splice.{length_part, length-splice, part-splice, part-splice-before, splice-splice, splice-next}

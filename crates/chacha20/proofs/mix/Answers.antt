@@ -1,5 +1,5 @@
 -- `chacha20::mix` meets its contract: after i turns the first i bytes are combined. Assumes nothing.
-use Rattle.std.proofs.Common.{◌-◌, refl, arith, length-set}
+use Rattle.std.proofs.Common.{refl, arith, length-set}
 use lib.Bits.{bit_xor}
 use Rattle.chacha20.specs.ChaCha.{zipped}
 use Rattle.chacha20.proofs.Front.{front-none}

@@ -1,5 +1,5 @@
 -- `chacha20::mix_two` meets its contract: two blocks are one after the other, and the second does not count where one is enough. Assumes nothing.
-use Rattle.std.proofs.Common.{◌≡◌, ℕ, ◌+◌, ◌-◌, ◌++◌, length, take, drop, sym, ap, ◌∙◌, arith, length-take-le, rules}
+use Rattle.std.proofs.Common.{◌≡◌, ℕ, ◌-◌, ◌++◌, length, take, drop, sym, ap, ◌∙◌, arith, length-take-le, rules}
 use lib.Bits.{bit_xor}
 use Rattle.chacha20.specs.ChaCha.{zipped, block}
 use Rattle.chacha20.proofs.Cipher.{one-mixed, two-mixed}

@@ -1,5 +1,5 @@
 -- `desk::position` meets its contract: the id's place lies in body (d), which lies in the desk. Assumes nothing.
-use Prim.Native.Nat.{ℕ, ◌+◌, ◌-◌}
+use Prim.Native.Nat.{ℕ, ◌+◌}
 use mathlib.Core.Path.{◌≡◌, ap, ◌∙◌}
 use native.Mathlib.Omega.{arith}
 use Rattle.words.specs.Numbers.{number}

@@ -1,5 +1,5 @@
 -- `formats::put_places` meets its contract: after i turns the first i places are written. Assumes nothing.
-use Prim.Native.Nat.{ℕ, ◌-◌}
+use Prim.Native.Nat.{ℕ}
 use mathlib.Core.Path.{refl, sym, ap, ◌∙◌}
 use mathlib.Core.List.{List}
 use lib.Seq.{take_all}

@@ -1,5 +1,5 @@
 -- `gathering::take_others` meets its contract: before each turn, taking what is left from slot k on gives the whole. Assumes nothing.
-use Prim.Native.Nat.{◌+◌, ◌*◌, ◌-◌}
+use Prim.Native.Nat.{◌+◌, ◌*◌}
 use mathlib.Core.Path.{◌≡◌, refl, sym, ap, ◌∙◌}
 use mathlib.Core.List.{List}
 use native.Mathlib.Omega.{arith}

@@ -1,5 +1,5 @@
 -- `gathering::take_path` meets its contract: after k turns the blocks of the first k items are in the bank. Assumes nothing.
-use Prim.Native.Nat.{◌*◌, ◌-◌}
+use Prim.Native.Nat.{◌*◌}
 use mathlib.Core.Path.{◌≡◌, refl, sym, ◌∙◌}
 use native.Mathlib.Omega.{arith}
 use Rattle.words.proofs.Splice.{splice-nil}

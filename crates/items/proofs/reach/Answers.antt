@@ -1,6 +1,4 @@
 -- `items::reach` meets its contract: all items down to level k are reachable, until a flag leads no further. Assumes nothing.
-use Prim.Native.Nat.{◌-◌}
-use mathlib.Core.Bool.{true}
 use mathlib.Core.Path.{refl, sym, ap, ◌∙◌}
 use native.Mathlib.Omega.{arith}
 use Rattle.items.specs.Items.{flag_of}

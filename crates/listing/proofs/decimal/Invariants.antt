@@ -1,5 +1,4 @@
 -- `listing::decimal` meets its contract: those digits that are found stand at the end, and y holds the others. Assumes nothing.
-use Prim.Native.Nat.{◌-◌}
 use Rattle.listing.proofs.Written as laws
 use Rattle.listing.proofs.decimal.Given as goal
 

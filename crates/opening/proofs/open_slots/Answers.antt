@@ -1,5 +1,4 @@
 -- `opening::open_slots` meets its contract: the slots of the first k items are opened, the items from k on are as they were lent. Assumes nothing.
-use Prim.Native.Nat.{◌-◌}
 use mathlib.Core.Path.{◌∙◌}
 use native.Mathlib.Omega.{arith}
 use Rattle.sizes.proofs.Lengths.{path_most}

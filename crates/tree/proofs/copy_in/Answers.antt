@@ -1,6 +1,6 @@
 -- `tree::copy_in` meets its contract: after k turns the tree is that with the first k items put back. Assumes nothing.
 use native.Mathlib.Numerals.{add-one}
-use Prim.Native.Nat.{ℕ, ◌+◌, ◌-◌}
+use Prim.Native.Nat.{ℕ, ◌+◌}
 use mathlib.Core.Path.{◌≡◌, refl, ap, ◌∙◌}
 use native.Mathlib.Omega.{arith}
 use Rattle.tree.specs.Tree.{put_back}

@@ -1,5 +1,4 @@
 -- `tree::copy_out` meets its contract: after k turns the first k items stand at the path's beginning. Assumes nothing.
-use Prim.Native.Nat.{◌-◌}
 use mathlib.Core.Path.{refl, sym}
 use native.Mathlib.Omega.{arith}
 use Rattle.words.proofs.Splice.{splice-nil}

@@ -1,5 +1,5 @@
 -- `chacha20::block::rounds` meets its contract: after n turns it is n times both rounds. Assumes nothing.
-use Rattle.std.proofs.Common.{◌≡◌, ◌-◌, refl, ap, ◌∙◌, add-one, arith}
+use Rattle.std.proofs.Common.{◌≡◌, refl, ap, ◌∙◌, add-one, arith}
 use Rattle.chacha20.specs.ChaCha.{rounds, inner}
 use Rattle.chacha20.proofs.block.rounds.Goals as goal
 

@@ -1,5 +1,5 @@
 -- `chacha20::block::serialize` meets its contract: after w turns the first w words of the block are laid in. Assumes nothing.
-use Rattle.std.proofs.Common.{◌≡◌, ◌+◌, ◌-◌, ◌*◌, get_or, sym, refl, ◌∙◌, arith}
+use Rattle.std.proofs.Common.{◌≡◌, ◌+◌, ◌*◌, get_or, sym, refl, ◌∙◌, arith}
 use Rattle.words.proofs.Splice.{splice-nil}
 use Rattle.chacha20.specs.ChaCha.{serialize}
 use Rattle.chacha20.specs.Lanes.{table}

@@ -1,5 +1,5 @@
 -- `chacha20::block::sums` meets its contract: after i turns the first i words are added. Assumes nothing.
-use Rattle.std.proofs.Common.{ℕ, ◌-◌, set, refl, ap, ◌∙◌, arith, length-set}
+use Rattle.std.proofs.Common.{ℕ, set, refl, ap, ◌∙◌, arith, length-set}
 use Rattle.chacha20.specs.ChaCha.{zipped, add32}
 use Rattle.chacha20.proofs.Front.{front-none}
 use Rattle.chacha20.proofs.Zipped.{zipped-turn, zipped-end}

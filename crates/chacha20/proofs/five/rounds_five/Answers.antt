@@ -1,5 +1,5 @@
 -- `chacha20::five::rounds_five` meets its contract: after n turns both states have had n times both rounds. Assumes nothing.
-use Rattle.std.proofs.Common.{◌≡◌, ◌-◌, refl, ap, ◌∙◌, add-one, arith}
+use Rattle.std.proofs.Common.{◌≡◌, refl, ap, ◌∙◌, add-one, arith}
 use Rattle.chacha20.specs.ChaCha.{rounds, inner}
 use Rattle.chacha20.specs.Lanes.{rounds_four, inner_four}
 use Rattle.chacha20.proofs.five.rounds_five.Goals as goal

@@ -1,5 +1,5 @@
 -- `chacha20::five::spread` meets its contract: after i turns the first i words are those of the table. Assumes nothing.
-use Rattle.std.proofs.Common.{◌≡◌, ℕ, ◌-◌, ◌/◌, length, get_or, sym, arith}
+use Rattle.std.proofs.Common.{◌≡◌, ℕ, ◌/◌, length, get_or, sym, arith}
 use Rattle.chacha20.specs.Lanes.{table, spread}
 use Rattle.words.specs.Bytes.{zeros}
 use Rattle.chacha20.proofs.Front.{front-none, front-turn, front-all}

@@ -1,6 +1,6 @@
 -- `chacha20::five::sweep` meets its contract: after i turns it is i quarter rounds. Assumes nothing.
 use Rattle.chacha20.specs.ChaCha.{quarter_at}
-use Rattle.std.proofs.Common.{◌≡◌, ℕ, ◌+◌, ◌-◌, List, refl, ap, ◌∙◌, add-one, arith}
+use Rattle.std.proofs.Common.{◌≡◌, ℕ, ◌+◌, List, refl, ap, ◌∙◌, add-one, arith}
 use Rattle.chacha20.specs.Lanes.{swept}
 use Rattle.chacha20.proofs.five.sweep.Goals as goal
 

@@ -1,5 +1,5 @@
 -- `chacha20::five::turn` meets its contract: after i turns the first i words of the row are the turned ones. Assumes nothing.
-use Rattle.std.proofs.Common.{◌≡◌, ℕ, ◌+◌, ◌-◌, ◌%◌, List, get_or, set, refl, ap, add-one, arith}
+use Rattle.std.proofs.Common.{◌≡◌, ℕ, ◌+◌, ◌%◌, List, get_or, set, refl, ap, add-one, arith}
 use Rattle.chacha20.specs.Lanes.{turned}
 use Rattle.chacha20.proofs.five.turn.Goals as goal
 

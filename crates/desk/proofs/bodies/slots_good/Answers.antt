@@ -1,13 +1,11 @@
 -- `desk::bodies::slots_good` meets its contract: the first i slots are good, and `last` is the id of the last of them. Assumes nothing.
-use Prim.Native.Nat.{◌+◌, ◌≤◌, ◌-◌}
+use Prim.Native.Nat.{◌+◌, ◌≤◌}
 use mathlib.Core.Path.{refl, sym, ◌∙◌}
-use mathlib.Core.Bool.{true}
 use native.Mathlib.Numerals.{add-one}
 use borrow.Author.Rules.{rules}
 use Rattle.words.proofs.Tests.{all_none, all_more, all-fails, all_end}
 use Rattle.slots.specs.Slots.{slot_by}
 use Rattle.desk.specs.Layout.{slot_at}
-use Rattle.desk.specs.Good.{slot_good}
 use Rattle.desk.proofs.Lengths.{slot_step}
 use Rattle.desk.proofs.bodies.slots_good.Goals as goal
 

@@ -1,5 +1,4 @@
 -- `desk::positions::none_above` meets its contract: what was found of the first i bytes is their test. Assumes nothing.
-use Prim.Native.Nat.{◌-◌}
 use mathlib.Core.Path.{refl, sym}
 use borrow.Author.Rules.{rules}
 use Rattle.words.proofs.Tests.{all_none, all-step, all_done}

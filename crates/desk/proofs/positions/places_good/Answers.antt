@@ -1,10 +1,8 @@
 -- `desk::positions::places_good` meets its contract: the first i places are good; sixty-four more that are low, or one more, keeps that; the first other one decides. Assumes nothing.
-use Prim.Native.Nat.{◌-◌}
 use mathlib.Core.Path.{sym, ◌∙◌}
-use mathlib.Core.Bool.{true}
 use borrow.Author.Rules.{rules}
 use Rattle.words.proofs.Tests.{all_none, all_more, all-fails, all_end}
-use Rattle.desk.specs.Good.{place_good, places_good}
+use Rattle.desk.specs.Good.{places_good}
 use Rattle.desk.proofs.Together.{more-good}
 use Rattle.desk.proofs.positions.places_good.Goals as goal
 

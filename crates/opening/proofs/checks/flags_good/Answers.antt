@@ -1,6 +1,6 @@
 -- `opening::checks::flags_good` meets its contract: the flags of the first k items are 0 or 1. Assumes nothing.
-use Prim.Native.Nat.{ℕ, ◌-◌}
-use mathlib.Core.Bool.{Bool, true, ◌&&◌}
+use Prim.Native.Nat.{ℕ}
+use mathlib.Core.Bool.{Bool, ◌&&◌}
 use mathlib.Core.Path.{sym, ◌∙◌}
 use mathlib.Core.List.{List}
 use native.Mathlib.Omega.{arith}

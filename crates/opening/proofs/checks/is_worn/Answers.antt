@@ -1,6 +1,6 @@
 -- `opening::checks::is_worn` meets its contract: none of the first k items has the last counter. Assumes nothing.
-use Prim.Native.Nat.{ℕ, ◌-◌}
-use mathlib.Core.Bool.{Bool, true, false, not}
+use Prim.Native.Nat.{ℕ}
+use mathlib.Core.Bool.{Bool, false, not}
 use mathlib.Core.Path.{◌≡◌, sym, ◌∙◌}
 use mathlib.Core.List.{List}
 use native.Mathlib.Omega.{arith}

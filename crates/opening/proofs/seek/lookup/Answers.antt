@@ -1,5 +1,5 @@
 -- `opening::seek::lookup` meets its contract: none of the first k items has the id; where none has, the stash is looked through. Assumes nothing.
-use Prim.Native.Nat.{ℕ, ◌-◌}
+use Prim.Native.Nat.{ℕ}
 use mathlib.Core.Path.{◌≡◌, sym, ap, ◌∙◌, subst}
 use mathlib.Core.List.{List}
 use native.Mathlib.Omega.{arith}

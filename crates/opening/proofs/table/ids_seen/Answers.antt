@@ -1,5 +1,5 @@
 -- `opening::table::ids_seen` meets its contract: the ids of the first i slots are met. Assumes nothing.
-use Prim.Native.Nat.{ℕ, ◌-◌}
+use Prim.Native.Nat.{ℕ}
 use mathlib.Core.Path.{◌≡◌, ◌∙◌, subst}
 use native.Mathlib.Omega.{arith}
 use Rattle.sizes.specs.Sizes.{record_len}

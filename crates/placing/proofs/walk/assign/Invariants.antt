@@ -1,5 +1,5 @@
 -- `placing::walk::assign` meets its contract: before each turn the first i heights, and those that the rest will be given, are the whole. Assumes nothing.
-use Prim.Native.Nat.{ℕ, ◌≤◌, ◌-◌, ◌+◌}
+use Prim.Native.Nat.{ℕ, ◌≤◌, ◌-◌}
 use mathlib.Core.Path.{◌≡◌}
 use mathlib.Core.List.{◌++◌}
 use lib.ListN.{length, take, drop, get_or}

@@ -1,5 +1,5 @@
 -- `placing::walk::seek` meets its contract: before each turn the search goes on from h, and both leaves are halved h times. Assumes nothing.
-use Prim.Native.Nat.{◌-◌, ◌+◌}
+use Prim.Native.Nat.{◌+◌}
 use mathlib.Core.Path.{refl, sym, ◌∙◌}
 use native.Mathlib.Nat.{div-one}
 use native.Mathlib.Omega.{arith}

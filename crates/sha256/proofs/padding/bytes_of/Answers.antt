@@ -1,5 +1,5 @@
 -- `sha256::padding::bytes_of` meets its contract: after i turns the bytes of the first i words stand in front. Assumes nothing.
-use Rattle.std.proofs.Common.{◌≡◌, ℕ, ◌-◌, ◌*◌, length, take, sym, refl, ap, ◌∙◌, subst, arith, take_all, rules}
+use Rattle.std.proofs.Common.{◌≡◌, ℕ, ◌*◌, length, take, sym, refl, ap, ◌∙◌, subst, arith, take_all, rules}
 use Rattle.digest_sha2.specs.Sha2.{all_bytes}
 use Rattle.digest_sha2.proofs.Bytes.{all_more}
 use Rattle.sha256.proofs.padding.bytes_of.Goals as goal

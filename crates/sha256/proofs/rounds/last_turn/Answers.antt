@@ -1,5 +1,5 @@
 -- `sha256::rounds::last_turn` meets its contract: after i rounds of the turn the state is the one after t + i. Assumes nothing.
-use Rattle.std.proofs.Common.{◌≡◌, ℕ, ◌+◌, ◌-◌, refl, subst, arith}
+use Rattle.std.proofs.Common.{◌≡◌, ℕ, ◌+◌, refl, subst, arith}
 use Rattle.digest_sha2.specs.Sha2.{run}
 use Rattle.digest_sha2.specs.Sha256.{v256}
 use Rattle.sha256.proofs.rounds.last_turn.Goals as goal

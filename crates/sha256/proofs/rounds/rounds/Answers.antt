@@ -1,6 +1,6 @@
 -- `sha256::rounds::rounds` meets its contract: after each turn as many rows of constants are used, and the words in hand are the next turn's.
 -- Assumes nothing.
-use Rattle.std.proofs.Common.{◌≡◌, ℕ, ◌+◌, ◌-◌, ◌*◌, refl, subst, arith}
+use Rattle.std.proofs.Common.{◌≡◌, ℕ, ◌+◌, ◌*◌, refl, subst, arith}
 use Rattle.digest_sha2.specs.Sha2.{extend}
 use Rattle.digest_sha2.specs.Sha256.{v256}
 use Rattle.digest_sha2.specs.Turns.{Reached}

@@ -1,5 +1,5 @@
 -- `sha256::schedule::load` meets its contract: after t turns the first t words are the block's. Assumes nothing.
-use Rattle.std.proofs.Common.{◌≡◌, ℕ, ◌-◌, ◌*◌, take, sym, refl, ◌∙◌, subst, arith, length-set, take_all}
+use Rattle.std.proofs.Common.{◌≡◌, ℕ, ◌*◌, take, sym, refl, ◌∙◌, subst, arith, length-set, take_all}
 use Rattle.words.specs.Bytes.{part}
 use Rattle.words.proofs.Numbers.{big_number-part}
 use Rattle.digest_sha2.specs.Sha2.{words_of}

@@ -1,5 +1,5 @@
 -- `sha256::stream::blocks` meets its contract: after i turns it is the hash value after i blocks. Assumes nothing.
-use Rattle.std.proofs.Common.{◌≡◌, ℕ, ◌-◌, refl, subst, arith}
+use Rattle.std.proofs.Common.{◌≡◌, ℕ, refl, subst, arith}
 use Rattle.digest_sha2.specs.Sha2.{after}
 use Rattle.digest_sha2.specs.Sha256.{v256}
 use Rattle.digest_sha2.proofs.Blocks.{after_more}
