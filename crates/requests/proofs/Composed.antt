@@ -22,7 +22,6 @@ use Rattle.items.specs.Real.{real}
 use Rattle.store.specs.declared.Finished.{Finished}
 use Rattle.store.specs.declared.Finished.TheVariants as finished
 use Rattle.store.specs.Finish as finish
-use Rattle.requests.specs.declared.Answered.{Answered}
 use Rattle.requests.specs.declared.Answered.TheVariants as answered
 use Rattle.requests.specs.Request.{RequestResult, requested, is_refused, put_unless, returned, finished_by, fetched_for, asked_for, request_of}
 

@@ -25,7 +25,7 @@ use Rattle.listing.specs.declared.Answer.TheVariants as answer
 use Rattle.listing.specs.Listing.{Wrote, most_row, row_of, format_row}
 use Rattle.runs.specs.declared.run.Run.{Run}
 use Rattle.runs.specs.declared.run.Run.TheVariants as run
-use Rattle.runs.specs.Shelf.{key, Shelf, shelf, over, sizes_of, desk_len_of, tree_len_of, path_len_of, most_desk, most_tree, most_path, Lent}
+use Rattle.runs.specs.Shelf.{key, Shelf, over, sizes_of, desk_len_of, tree_len_of, path_len_of, most_desk, most_tree, most_path, Lent}
 
 -- where a run stands after a line, what was written, and what the shelf then holds
 pub record Moved : Type 0 where

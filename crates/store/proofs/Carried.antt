@@ -5,7 +5,6 @@ use mathlib.Core.List.{List}
 use Prim.Native.Nat.{ℕ}
 use Rattle.desk.specs.declared.Kind.{Kind}
 use Rattle.desk.specs.declared.Kind.TheVariants.{Read, Write}
-use Rattle.store.specs.declared.Finished.{Finished}
 use Rattle.store.specs.declared.Finished.TheVariants as finished
 use Rattle.store.specs.Steps.{answer_for, buffer_for, mark_for}
 use Rattle.store.specs.Carried.{is_found, is_there}

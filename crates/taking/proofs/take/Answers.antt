@@ -1,5 +1,5 @@
 -- `taking::take` meets its contract: at each turn, what is left to do comes to what the whole text is. Assumes nothing.
-use Prim.Native.Nat.{◌+◌, ◌-◌, ◌≤◌, ◌<◌}
+use Prim.Native.Nat.{◌+◌, ◌≤◌, ◌<◌}
 use mathlib.Core.Path.{refl, ap, ◌∙◌}
 use native.Mathlib.Omega.{arith}
 use lib.ListN.{length}

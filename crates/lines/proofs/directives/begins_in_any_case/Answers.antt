@@ -1,5 +1,4 @@
 -- `lines::directives::begins_in_any_case` meets its contract: up to i the word and the capitals agree, so that what is left decides. Assumes nothing.
-use Prim.Native.Nat.{◌-◌}
 use mathlib.Core.Path.{refl, sym, ◌∙◌}
 use native.Mathlib.Omega.{arith}
 use lib.ListN.{length, take, length-take, drop_of_length-le}

@@ -1,5 +1,4 @@
 -- `lines::directives::first_directive` meets its contract: the i bytes that were passed have none, and what stands from there on decides. Assumes nothing.
-use Prim.Native.Nat.{◌-◌}
 use mathlib.Core.Path.{sym, ◌∙◌}
 use native.Mathlib.Omega.{arith}
 use Rattle.lines.proofs.Cuts as laws

@@ -1,5 +1,4 @@
 -- `lines::fronts::count` meets its contract: after i digits of value v, what stands from there on decides. Assumes nothing.
-use Prim.Native.Nat.{◌-◌}
 use mathlib.Core.Path.{sym, ap, ◌∙◌}
 use native.Mathlib.Omega.{arith}
 use lib.ListN.{get_or, drop_of_length-le}

@@ -1,5 +1,4 @@
 -- `lines::fronts::spaces` meets its contract: the i bytes that were passed are counted, and what stands from there on decides. Assumes nothing.
-use Prim.Native.Nat.{◌-◌}
 use mathlib.Core.Path.{ap}
 use native.Mathlib.Omega.{arith}
 use lib.ListN.{drop_of_length-le}

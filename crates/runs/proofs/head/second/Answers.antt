@@ -3,8 +3,8 @@ use Prim.Native.Nat.{ℕ}
 use mathlib.Core.Path.{refl, sym, ap, ◌∙◌}
 use mathlib.Core.List.{List, [], ◌++◌}
 use native.Mathlib.Omega.{arith}
-use lib.ListN.{length, drop}
-use lib.Seq.{length-take-le, take_at}
+use lib.ListN.{drop}
+use lib.Seq.{length-take-le}
 use Rattle.setup.specs.Setup.{start_good}
 use Rattle.runs.specs.Shelf.{shelf}
 use Rattle.runs.specs.Run.{second_step}
