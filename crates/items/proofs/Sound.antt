@@ -13,7 +13,7 @@ use Rattle.chacha20.proofs.Cipher.{length-cipher, cipher_twice}
 use Rattle.items.specs.Items.{Sound}
 use Rattle.items.specs.Real.{real}
 
--- ---- for sha2
+-- ---- for digest_sha2
 
 length-all_bytes : (n : ℕ) (s : List ℕ) → length (all_bytes n s) ≡ n * length s
 unfolding all_bytes

@@ -1,5 +1,5 @@
 // SHA-256 (FIPS 180-4) of a list of bytes, at once by `digest` or part by part by a `Hasher`. The standard's definitions are those of crate
-// sha2. The length field is the bit length modulo 2 ^ 64: the standard's wherever it speaks, which is below that. Assumes nothing.
+// digest_sha2. The length field is the bit length modulo 2 ^ 64: the standard's wherever it speaks, which is below that. Assumes nothing.
 #![tactic(auto)]
 
 ghost use Rattle.std.specs.Prelude.{◌≡◌};
