@@ -4,6 +4,9 @@
 
 ghost use Rattle.std.specs.Prelude.{◌<◌};
 
+use std::io;
+use std::io::Write;
+
 const BLOCK: usize = 64;
 
 const BLOCKS: usize = 42;
@@ -55,16 +58,16 @@ fn right(key: &[u8], nonce: &[u8], first: usize, plain: &[u8], sealed: &[u8]) ->
     words::same(&t[at..e], &want[..plain.len()])
 }
 
-fn say(what: &[u8], good: bool) {
-    io::write_all(libc::STDOUT_FILENO, what);
+fn say(out: &mut impl Write, what: &[u8], good: bool) -> io::Result<()> {
+    out.write_all(what)?;
     if good {
-        io::write_all(libc::STDOUT_FILENO, b": ok\n");
+        out.write_all(b": ok\n")
     } else {
-        io::write_all(libc::STDOUT_FILENO, b": bad\n");
+        out.write_all(b": bad\n")
     }
 }
 
-fn section_2_3_2() {
+fn section_2_3_2(out: &mut impl Write) -> io::Result<()> {
     let key = b"000102030405060708090a0b0c0d0e0f101112131415161718191a1b1c1d1e1f";
     let nonce = b"000000090000004a00000000";
     let plain = [0u8; BLOCK];
@@ -72,12 +75,13 @@ fn section_2_3_2() {
         b"10f1e7e4d13b5915500fdd1fa32071c4c7d1f4c733c068030422aa9ac3d46c4ed2826446079faa0914c2d705d98b02a2\
         b5129cd1de164eb9cbd083e8a2503c4e";
     say(
+        out,
         b"RFC 8439 2.3.2 Test Vector for the ChaCha20 Block Function: keystream block 1, 64 bytes",
         right(key, nonce, 1, &plain, sealed),
-    );
+    )
 }
 
-fn section_2_4_2() {
+fn section_2_4_2(out: &mut impl Write) -> io::Result<()> {
     let key = b"000102030405060708090a0b0c0d0e0f101112131415161718191a1b1c1d1e1f";
     let nonce = b"000000000000004a00000000";
     let plain =
@@ -88,12 +92,13 @@ fn section_2_4_2() {
         1639d624e65152ab8f530c359f0861d807ca0dbf500d6a6156a38e088a22b65e52bc514d16ccf806818ce91ab7793736\
         5af90bbf74a35be6b40b8eedf2785e42874d";
     say(
+        out,
         b"RFC 8439 2.4.2 Example and Test Vector for the ChaCha20 Cipher: 114 bytes of text enciphered from block 1",
         right(key, nonce, 1, plain, sealed),
-    );
+    )
 }
 
-fn section_a_1_1() {
+fn section_a_1_1(out: &mut impl Write) -> io::Result<()> {
     let key = b"0000000000000000000000000000000000000000000000000000000000000000";
     let nonce = b"000000000000000000000000";
     let plain = [0u8; BLOCK];
@@ -101,12 +106,13 @@ fn section_a_1_1() {
         b"76b8e0ada0f13d90405d6ae55386bd28bdd219b8a08ded1aa836efcc8b770dc7da41597c5157488d7724e03fb8d84a37\
         6a43b8f41518a11cc387b669b2ee6586";
     say(
+        out,
         b"RFC 8439 A.1 Test Vector #1: keystream block 0, 64 bytes",
         right(key, nonce, 0, &plain, sealed),
-    );
+    )
 }
 
-fn section_a_1_2() {
+fn section_a_1_2(out: &mut impl Write) -> io::Result<()> {
     let key = b"0000000000000000000000000000000000000000000000000000000000000000";
     let nonce = b"000000000000000000000000";
     let plain = [0u8; BLOCK];
@@ -114,12 +120,13 @@ fn section_a_1_2() {
         b"9f07e7be5551387a98ba977c732d080dcb0f29a048e3656912c6533e32ee7aed29b721769ce64e43d57133b074d839d5\
         31ed1f28510afb45ace10a1f4b794d6f";
     say(
+        out,
         b"RFC 8439 A.1 Test Vector #2: keystream block 1, 64 bytes",
         right(key, nonce, 1, &plain, sealed),
-    );
+    )
 }
 
-fn section_a_1_3() {
+fn section_a_1_3(out: &mut impl Write) -> io::Result<()> {
     let key = b"0000000000000000000000000000000000000000000000000000000000000001";
     let nonce = b"000000000000000000000000";
     let plain = [0u8; BLOCK];
@@ -127,12 +134,13 @@ fn section_a_1_3() {
         b"3aeb5224ecf849929b9d828db1ced4dd832025e8018b8160b82284f3c949aa5a8eca00bbb4a73bdad192b5c42f73f2fd\
         4e273644c8b36125a64addeb006c13a0";
     say(
+        out,
         b"RFC 8439 A.1 Test Vector #3: keystream block 1, 64 bytes",
         right(key, nonce, 1, &plain, sealed),
-    );
+    )
 }
 
-fn section_a_1_4() {
+fn section_a_1_4(out: &mut impl Write) -> io::Result<()> {
     let key = b"00ff000000000000000000000000000000000000000000000000000000000000";
     let nonce = b"000000000000000000000000";
     let plain = [0u8; BLOCK];
@@ -140,12 +148,13 @@ fn section_a_1_4() {
         b"72d54dfbf12ec44b362692df94137f328fea8da73990265ec1bbbea1ae9af0ca13b25aa26cb4a648cb9b9d1be65b2c09\
         24a66c54d545ec1b7374f4872e99f096";
     say(
+        out,
         b"RFC 8439 A.1 Test Vector #4: keystream block 2, 64 bytes",
         right(key, nonce, 2, &plain, sealed),
-    );
+    )
 }
 
-fn section_a_1_5() {
+fn section_a_1_5(out: &mut impl Write) -> io::Result<()> {
     let key = b"0000000000000000000000000000000000000000000000000000000000000000";
     let nonce = b"000000000000000000000002";
     let plain = [0u8; BLOCK];
@@ -153,12 +162,13 @@ fn section_a_1_5() {
         b"c2c64d378cd536374ae204b9ef933fcd1a8b2288b3dfa49672ab765b54ee27c78a970e0e955c14f3a88e741b97c286f7\
         5f8fc299e8148362fa198a39531bed6d";
     say(
+        out,
         b"RFC 8439 A.1 Test Vector #5: keystream block 0, 64 bytes",
         right(key, nonce, 0, &plain, sealed),
-    );
+    )
 }
 
-fn section_a_2_1() {
+fn section_a_2_1(out: &mut impl Write) -> io::Result<()> {
     let key = b"0000000000000000000000000000000000000000000000000000000000000000";
     let nonce = b"000000000000000000000000";
     let plain = [0u8; BLOCK];
@@ -166,12 +176,13 @@ fn section_a_2_1() {
         b"76b8e0ada0f13d90405d6ae55386bd28bdd219b8a08ded1aa836efcc8b770dc7da41597c5157488d7724e03fb8d84a37\
         6a43b8f41518a11cc387b669b2ee6586";
     say(
+        out,
         b"RFC 8439 A.2 Test Vector #1: 64 bytes of text enciphered from block 0",
         right(key, nonce, 0, &plain, sealed),
-    );
+    )
 }
 
-fn section_a_2_2() {
+fn section_a_2_2(out: &mut impl Write) -> io::Result<()> {
     let key = b"0000000000000000000000000000000000000000000000000000000000000001";
     let nonce = b"000000000000000000000002";
     let plain =
@@ -190,36 +201,39 @@ fn section_a_2_2() {
         5869ca52c5b83fa36ff216b9c1d30062bebcfd2dc5bce0911934fda79a86f6e698ced759c3ff9b6477338f3da4f9cd85\
         14ea9982ccafb341b2384dd902f3d1ab7ac61dd29c6f21ba5b862f3730e37cfdc4fd806c22f221";
     say(
+        out,
         b"RFC 8439 A.2 Test Vector #2: 375 bytes of text enciphered from block 1",
         right(key, nonce, 1, plain, sealed),
-    );
+    )
 }
 
-fn section_a_2_3() {
+fn section_a_2_3(out: &mut impl Write) -> io::Result<()> {
     let key = b"1c9240a5eb55d38af333888604f6b5f0473917c1402b80099dca5cbc207075c0";
     let nonce = b"000000000000000000000002";
     let plain =
-        b"'Twas brillig, and the slithy toves\n_did gyre and gimble in the wabe:\n_all mimsy were the \
-        borogoves,\n_and the mome raths outgrabe.";
+        b"'Twas brillig, and the slithy toves\nDid gyre and gimble in the wabe:\nAll mimsy were the \
+        borogoves,\nAnd the mome raths outgrabe.";
     let sealed =
         b"62e6347f95ed87a45ffae7426f27a1df5fb69110044c0d73118effa95b01e5cf166d3df2d721caf9b21e5fb14c616871\
         fd84c54f9d65b283196c7fe4f60553ebf39c6402c42234e32a356b3e764312a61a5532055716ead6962568f87d3f3f77\
         04c6a8d1bcd1bf4d50d6154b6da731b187b58dfd728afa36757a797ac188d1";
     say(
+        out,
         b"RFC 8439 A.2 Test Vector #3: 127 bytes of text enciphered from block 42",
         right(key, nonce, 42, plain, sealed),
-    );
+    )
 }
 
-fn main() {
-    section_2_3_2();
-    section_2_4_2();
-    section_a_1_1();
-    section_a_1_2();
-    section_a_1_3();
-    section_a_1_4();
-    section_a_1_5();
-    section_a_2_1();
-    section_a_2_2();
-    section_a_2_3();
+fn main(rt: HostRuntime) -> io::Result<()> {
+    let mut out = rt.stdout();
+    section_2_3_2(&mut out)?;
+    section_2_4_2(&mut out)?;
+    section_a_1_1(&mut out)?;
+    section_a_1_2(&mut out)?;
+    section_a_1_3(&mut out)?;
+    section_a_1_4(&mut out)?;
+    section_a_1_5(&mut out)?;
+    section_a_2_1(&mut out)?;
+    section_a_2_2(&mut out)?;
+    section_a_2_3(&mut out)
 }

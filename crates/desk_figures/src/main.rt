@@ -5,107 +5,163 @@
 use asks::Asked;
 use desk::Kind;
 use sizes::{Outcome, Refusal};
+use std::io;
+use std::io::Write;
 
 // 186 + 3N + 68S
 const DESK: usize = 331;
 
-fn put(s: &[u8]) {
-    io::write_all(libc::STDOUT_FILENO, s);
+fn put(out: &mut impl Write, s: &[u8]) -> io::Result<()> {
+    out.write_all(s)
 }
 
 // A number below 100, in decimal.
-fn put_number(n: u16) {
+fn put_number(out: &mut impl Write, n: u16) -> io::Result<()> {
     let tens = (n / 10 % 10) as u8 + b'0';
     let ones = (n % 10) as u8 + b'0';
     if 10 <= n {
-        put(&[tens]);
+        put(out, &[tens])?;
     }
-    put(&[ones]);
+    put(out, &[ones])
 }
 
-fn put_refusal(r: Refusal) {
-    put(b"refused ");
-    put_number(sizes::number(r) as u16);
-    put(b"\n");
+fn put_refusal(out: &mut impl Write, r: Refusal) -> io::Result<()> {
+    put(out, b"refused ")?;
+    put_number(out, sizes::number(r) as u16)?;
+    put(out, b"\n")
 }
 
-fn put_outcome(o: Outcome) {
+fn put_outcome(out: &mut impl Write, o: Outcome) -> io::Result<()> {
     match o {
-        Outcome::Done => put(b"done\n"),
-        Outcome::Refused(r) => put_refusal(r),
+        Outcome::Done => put(out, b"done\n"),
+        Outcome::Refused(r) => put_refusal(out, r),
     }
 }
 
-fn put_asked(a: Asked) {
+fn put_asked(out: &mut impl Write, a: Asked) -> io::Result<()> {
     match a {
         Asked::Leaf(leaf) => {
-            put(b"leaf ");
-            put_number(leaf);
-            put(b"\n");
+            put(out, b"leaf ")?;
+            put_number(out, leaf)?;
+            put(out, b"\n")
         }
-        Asked::Refused(r) => put_refusal(r),
+        Asked::Refused(r) => put_refusal(out, r),
     }
 }
 
 // Format with these sizes; the starting leaves are 1, 0, 1.
-fn format_line(what: &[u8], height: u8, slots: u8, ids: u16) {
+fn format_line(
+    out: &mut impl Write,
+    what: &[u8],
+    height: u8,
+    slots: u8,
+    ids: u16,
+) -> io::Result<()> {
     let mut buffer = [255u8; DESK];
     let key = [7u8; 32];
     let starts = [1u16, 0, 1];
-    put(what);
-    put_outcome(formats::format(&mut buffer, height, slots, 2, ids, &key, &starts));
+    put(out, what)?;
+    put_outcome(
+        out,
+        formats::format(&mut buffer, height, slots, 2, ids, &key, &starts),
+    )
 }
 
 // Ask in a new desk.
-fn ask_line(what: &[u8], kind: Kind, id: u16, leaf: u16, record: &[u8]) {
+fn ask_line(
+    out: &mut impl Write,
+    what: &[u8],
+    kind: Kind,
+    id: u16,
+    leaf: u16,
+    record: &[u8],
+) -> io::Result<()> {
     let mut buffer = [255u8; DESK];
     let key = [7u8; 32];
     let starts = [3u16, 0, 1];
     formats::format(&mut buffer, 2, 1, 2, 3, &key, &starts);
-    put(what);
-    put_asked(asks::ask(&mut buffer, kind, id, leaf, record));
+    put(out, what)?;
+    put_asked(out, asks::ask(&mut buffer, kind, id, leaf, record))
 }
 
 // Ask twice: the second finds the desk open. Then a desk that no format wrote.
-fn open_lines() {
+fn open_lines(out: &mut impl Write) -> io::Result<()> {
     let mut buffer = [255u8; DESK];
     let key = [7u8; 32];
     let starts = [3u16, 0, 1];
     let record = [9u8; 64];
-    put(b"ask, desk never formatted: ");
-    put_asked(asks::ask(&mut buffer, Kind::Read, 1, 0, &record));
+    put(out, b"ask, desk never formatted: ")?;
+    put_asked(out, asks::ask(&mut buffer, Kind::Read, 1, 0, &record))?;
     formats::format(&mut buffer, 2, 1, 2, 3, &key, &starts);
-    put(b"ask id 2: ");
-    put_asked(asks::ask(&mut buffer, Kind::Write, 2, 3, &record));
-    put(b"ask again, desk open: ");
-    put_asked(asks::ask(&mut buffer, Kind::Read, 2, 3, &record));
+    put(out, b"ask id 2: ")?;
+    put_asked(out, asks::ask(&mut buffer, Kind::Write, 2, 3, &record))?;
+    put(out, b"ask again, desk open: ")?;
+    put_asked(out, asks::ask(&mut buffer, Kind::Read, 2, 3, &record))?;
     buffer[desk::STATUS] = desk::FORGED;
-    put(b"ask again, desk stopped as forged: ");
-    put_asked(asks::ask(&mut buffer, Kind::Read, 2, 3, &record));
+    put(out, b"ask again, desk stopped as forged: ")?;
+    put_asked(out, asks::ask(&mut buffer, Kind::Read, 2, 3, &record))
 }
 
-fn main() {
+// Format, at the edges of each size.
+fn format_lines(out: &mut impl Write) -> io::Result<()> {
+    format_line(out, b"format L 0: ", 0, 1, 3)?;
+    format_line(out, b"format L 1: ", 1, 1, 3)?;
+    format_line(out, b"format L 12: ", 12, 1, 3)?;
+    format_line(out, b"format L 13: ", 13, 1, 3)?;
+    format_line(out, b"format Z 0: ", 2, 0, 3)?;
+    format_line(out, b"format Z 1: ", 2, 1, 3)?;
+    format_line(out, b"format Z 8: ", 2, 8, 3)?;
+    format_line(out, b"format Z 9: ", 2, 9, 3)?;
+    format_line(out, b"format N 0: ", 2, 1, 0)?;
+    format_line(out, b"format N 4097: ", 2, 1, 4097)?;
+    format_line(
+        out,
+        b"format N 4, desk and starting leaves of N 3: ",
+        2,
+        1,
+        4,
+    )
+}
+
+// Ask, at the edges of the id, the new leaf and the record.
+fn ask_lines(out: &mut impl Write) -> io::Result<()> {
     let record = [9u8; 64];
     let short = [9u8; 63];
-    format_line(b"format L 0: ", 0, 1, 3);
-    format_line(b"format L 1: ", 1, 1, 3);
-    format_line(b"format L 12: ", 12, 1, 3);
-    format_line(b"format L 13: ", 13, 1, 3);
-    format_line(b"format Z 0: ", 2, 0, 3);
-    format_line(b"format Z 1: ", 2, 1, 3);
-    format_line(b"format Z 8: ", 2, 8, 3);
-    format_line(b"format Z 9: ", 2, 9, 3);
-    format_line(b"format N 0: ", 2, 1, 0);
-    format_line(b"format N 4097: ", 2, 1, 4097);
-    format_line(b"format N 4, desk and starting leaves of N 3: ", 2, 1, 4);
-    ask_line(b"ask id 0: ", Kind::Read, 0, 0, &record);
-    ask_line(b"ask id 1: ", Kind::Read, 1, 0, &record);
-    ask_line(b"ask id N: ", Kind::Read, 3, 0, &record);
-    ask_line(b"ask id N + 1: ", Kind::Read, 4, 0, &record);
-    ask_line(b"ask id 1, new leaf 2^L - 1: ", Kind::Read, 1, 3, &record);
-    ask_line(b"ask id 1, new leaf 2^L: ", Kind::Read, 1, 4, &record);
-    ask_line(b"write id 1, record of 64: ", Kind::Write, 1, 2, &record);
-    ask_line(b"write id 1, record of 63: ", Kind::Write, 1, 2, &short);
-    ask_line(b"read id 1, buffer of 63: ", Kind::Read, 1, 2, &short);
-    open_lines();
+    ask_line(out, b"ask id 0: ", Kind::Read, 0, 0, &record)?;
+    ask_line(out, b"ask id 1: ", Kind::Read, 1, 0, &record)?;
+    ask_line(out, b"ask id N: ", Kind::Read, 3, 0, &record)?;
+    ask_line(out, b"ask id N + 1: ", Kind::Read, 4, 0, &record)?;
+    ask_line(
+        out,
+        b"ask id 1, new leaf 2^L - 1: ",
+        Kind::Read,
+        1,
+        3,
+        &record,
+    )?;
+    ask_line(out, b"ask id 1, new leaf 2^L: ", Kind::Read, 1, 4, &record)?;
+    ask_line(
+        out,
+        b"write id 1, record of 64: ",
+        Kind::Write,
+        1,
+        2,
+        &record,
+    )?;
+    ask_line(
+        out,
+        b"write id 1, record of 63: ",
+        Kind::Write,
+        1,
+        2,
+        &short,
+    )?;
+    ask_line(out, b"read id 1, buffer of 63: ", Kind::Read, 1, 2, &short)
+}
+
+fn main(rt: HostRuntime) -> io::Result<()> {
+    let mut out = rt.stdout();
+    format_lines(&mut out)?;
+    ask_lines(&mut out)?;
+    open_lines(&mut out)
 }

@@ -3,6 +3,11 @@
 // 64 hexadecimal digits each, which another implementation gave. A line of output per vector. Assumes nothing.
 #![tactic(auto)]
 
+ghost use Rattle.std.specs.Prelude.{◌≤◌, length, IfOk};
+
+use std::io;
+use std::io::{Read, Write};
+
 const LONGEST: usize = 200;
 
 const MESSAGES: usize = 201;
@@ -13,8 +18,23 @@ const LINE: usize = 65;
 
 const LINES: usize = 13065;
 
-fn put(s: &[u8]) {
-    io::write_all(libc::STDOUT_FILENO, s);
+fn put(out: &mut impl Write, s: &[u8]) -> io::Result<()> {
+    out.write_all(s)
+}
+
+// Reads until `buf` is full or the input ends, and returns how many bytes it put at the start of `buf`.
+fn read_full(input: &mut impl Read, buf: &mut [u8]) -> io::Result<usize>
+    ensures { IfOk result (λ n. n ≤ length buf.new) }
+{
+    let mut done = 0;
+    while done < buf.len() {
+        let n = input.read(&mut buf[done..])?;
+        if n == 0 {
+            break;
+        }
+        done += n;
+    }
+    Ok(done)
 }
 
 fn digit(n: u8) -> u8 {
@@ -36,15 +56,15 @@ fn hex(d: [u8; 32]) -> [u8; 64] {
 }
 
 // The line of one vector: its name, its digest, and whether that is the expected one.
-fn vector(name: &[u8], d: [u8; 32], expected: &[u8]) {
+fn vector(out: &mut impl Write, name: &[u8], d: [u8; 32], expected: &[u8]) -> io::Result<()> {
     let h = hex(d);
-    put(name);
-    put(b": ");
-    put(&h);
+    put(out, name)?;
+    put(out, b": ")?;
+    put(out, &h)?;
     if words::same(&h, expected) {
-        put(b" as expected\n");
+        put(out, b" as expected\n")
     } else {
-        put(b" NOT AS EXPECTED\n");
+        put(out, b" NOT AS EXPECTED\n")
     }
 }
 
@@ -89,7 +109,7 @@ fn name(n: usize) -> [u8; 9] {
 }
 
 // The messages of 0 to 200 bytes, and a digest of all their digests, absorbed one by one.
-fn messages(expected: &[u8; 13065]) -> [u8; 32] {
+fn messages(out: &mut impl Write, expected: &[u8; 13065]) -> io::Result<[u8; 32]> {
     let m = pattern();
     let mut all = sha256::Hasher::new();
     let mut n: usize = 0;
@@ -100,51 +120,63 @@ fn messages(expected: &[u8; 13065]) -> [u8; 32] {
         let line = &t[at..e];
         let front = &m[..n];
         let d = sha256::digest(front);
-        vector(&name(n), d, line);
-        vector(b"  in parts", in_parts(front), line);
+        vector(out, &name(n), d, line)?;
+        vector(out, b"  in parts", in_parts(front), line)?;
         all = all.absorb(&d);
         n += 1;
     }
-    all.finish()
+    Ok(all.finish())
 }
 
-fn main() {
+// The published vectors.
+fn published(out: &mut impl Write) -> io::Result<()> {
     vector(
+        out,
         b"empty message",
         sha256::digest(b""),
         b"e3b0c44298fc1c149afbf4c8996fb92427ae41e4649b934ca495991b7852b855",
-    );
+    )?;
     vector(
+        out,
         b"abc",
         sha256::digest(b"abc"),
         b"ba7816bf8f01cfea414140de5dae2223b00361a396177a9cb410ff61f20015ad",
-    );
+    )?;
     vector(
+        out,
         b"448 bits",
         sha256::digest(b"abcdbcdecdefdefgefghfghighijhijkijkljklmklmnlmnomnopnopq"),
         b"248d6a61d20638b8e5c026930c3e6039a33ce45964ff2167f6ecedd419db06c1",
-    );
+    )?;
     vector(
+        out,
         b"896 bits",
         sha256::digest(
             b"abcdefghbcdefghicdefghijdefghijkefghijklfghijklmghijklmnhijklmnoijklmnopjklmnopqklmnopqrlmnopqrsmnopqrstnopqrstu",
         ),
         b"cf5b16a778af8380036ce59e7b0492370b249b11e8f07a51afac45037afee9d1",
-    );
+    )?;
     vector(
+        out,
         b"a million a",
         million(),
         b"cdc76e5c9914fb9281a1c7e284d73e67f1809a48a497200e046d39ccc7112cd0",
-    );
+    )
+}
+
+fn main(rt: HostRuntime) -> io::Result<()> {
+    let mut out = rt.stdout();
+    published(&mut out)?;
     let mut expected = [0u8; 13065];
-    let got = io::read_full(libc::STDIN_FILENO, &mut expected);
+    let got = read_full(&mut rt.stdin(), &mut expected)?;
     if got != LINES {
-        put(b"standard input is not 201 lines\n");
-        return;
+        return put(&mut out, b"standard input is not 201 lines\n");
     }
+    let together = messages(&mut out, &expected)?;
     vector(
+        &mut out,
         b"the 201 digests together",
-        messages(&expected),
+        together,
         b"3275febb4612d86d586eb9f11cd21e648a9fc7d95e0f6b8d362786e28c9c5b79",
-    );
+    )
 }

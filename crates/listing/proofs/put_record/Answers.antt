@@ -10,10 +10,6 @@ use Rattle.text.proofs.Fronts.{before-is}
 use Rattle.listing.proofs.Written.{and_then}
 use Rattle.listing.proofs.put_record.Goals as goal
 
--- LOST slice-aggregate-put-2
--- slice-aggregate-put-2 : tie.Need-slice-aggregate-put-2
--- slice-aggregate-put-2 c = sym (length-take-le c.before.before.before2.result c.before.before.before.before.before.before.before.before.before.before.args.«record».now c.before.before.before2.ensures.1)
-
 pub put-requires : goal.put-requires
 put-requires c =
     let n = length-take-le c.before-n.result c.args.«record».now c.before-n.ensures.1 in

@@ -36,14 +36,6 @@ slice_bounds-format-end-2 c =
     let a = c.args in
     sym (length-take-le c.desk_len-m.result a.desk.now (omega arith))
 
--- LOST slice-aggregate-format-3
--- slice-aggregate-format-3 : tie.Need-slice-aggregate-format-3
--- slice-aggregate-format-3 c =
---     let a = c.before.before.before.before.before.before.before.before.before.before.before.before.before.before.args in
---     let s = c.before.before.before.before.before.before.before.start-line in
---     let k = s.auto.1.0 ∙ length-take-le a.store.ids a.leaves.now (omega arith) in
---     sym (ap length (take_at s.new.1.0 (drop a.store.ids a.leaves.now) a.store.ids k) ∙ k)
-
 pub returns-in-Refused : goal.returns-in-Refused
 returns-in-Refused c =
     let a = c.args in
