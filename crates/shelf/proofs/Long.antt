@@ -1,5 +1,5 @@
 -- A line that is longer than any that can be read ends the run, whichever line was to come. Assumes nothing.
-use Prim.Native.Nat.{ℕ, ◌+◌, ◌<◌}
+use Prim.Native.Nat.{ℕ, ◌<◌}
 use mathlib.Core.Path.{◌≡◌, sym, ap, subst}
 use mathlib.Core.Bool.{Bool, false}
 use mathlib.Core.List.{List, ◌++◌}

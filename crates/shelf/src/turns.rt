@@ -8,9 +8,9 @@ ghost use Rattle.runs.specs.Shelf.{shelf, Lent};
 ghost use Rattle.runs.specs.Run.{Sound, count_of};
 ghost use Rattle.shelf.specs.Turns.{Inside, Placed, Turned, Listed};
 
-use libc::{STDERR_FILENO, STDIN_FILENO, STDOUT_FILENO};
 use runs::run;
 use runs::run::Run;
+use std::io::Read;
 use window::Next;
 
 // Where the program stands: the unread text is in the window from `from` up to `to`, and `ended` says whether that is all that is left of the script.
@@ -30,30 +30,34 @@ pub enum Turn {
 }
 
 // Writes a part of the listing, whole. Where that can't be done no line of the listing can say so, and the user is told on standard error.
-pub fn write_out(text: &[u8]) -> bool {
-    let written = io::write_all(STDOUT_FILENO, text);
-    if !written {
-        io::write_all(STDERR_FILENO, b"shelf: the listing can't be written\n");
+pub fn write_out(rt: &(impl Print + Eprint), text: &[u8]) -> bool {
+    match rt.write_all(text) {
+        Ok(()) => true,
+        Err(_) => {
+            let _ = rt.eprintln("shelf: the listing can't be written");
+            false
+        }
     }
-    written
 }
 
 // Reads on behind the unread text, which goes to the window's front, and answers where it then ends. A script that can't be read on ends there.
-fn fill(window: &mut [u8], from: usize, to: usize) -> usize
+fn fill(rt: &(impl Input + Eprint), window: &mut [u8], from: usize, to: usize) -> usize
     requires { (from ≤ to) × (to ≤ length window.old) }
     ensures { result ≤ length window.old }
 {
     window::shift(window, from, to);
     let n = to - from;
-    let got = libc::read(STDIN_FILENO, &mut window[n..]);
-    if got < 0 {
-        io::write_all(STDERR_FILENO, b"shelf: the script can't be read on\n");
+    match rt.reader().read(&mut window[n..]) {
+        Ok(got) => n + got,
+        Err(_) => {
+            let _ = rt.eprintln("shelf: the script can't be read on");
+            n
+        }
     }
-    n + io::count(got, &window[n..])
 }
 
 // More of the script is wanted. A window that is full holds the front of a line that is longer than any that can be read.
-fn more(at: Place, window: &mut [u8], out: &mut [u8]) -> Turn
+fn more(rt: &(impl Input + Print + Eprint), at: Place, window: &mut [u8], out: &mut [u8]) -> Turn
     requires { Inside at window.old × Sound at.run × (most_row ≤ length out.old) }
     ensures { Turned result (count_of at.run) (length window.old) × Listed result at.run (part window.old at.from (at.to - at.from)) out.old out.new }
 {
@@ -61,10 +65,10 @@ fn more(at: Place, window: &mut [u8], out: &mut [u8]) -> Turn
     if n == window.len() {
         let step = run::bad(out);
         let n = step.written;
-        write_out(&out[..n]);
+        write_out(rt, &out[..n]);
         return Turn::Stop;
     }
-    let end = fill(window, at.from, at.to);
+    let end = fill(rt, window, at.from, at.to);
     let run = at.run;
     Turn::Go(Place {
         from: 0,
@@ -75,11 +79,11 @@ fn more(at: Place, window: &mut [u8], out: &mut [u8]) -> Turn
 }
 
 // The script has ended.
-fn over(run: Run, out: &mut [u8])
+fn over(rt: &(impl Print + Eprint), run: Run, out: &mut [u8])
     requires { most_row ≤ length out.old }
 {
     let n = run::at_end(run, out);
-    write_out(&out[..n]);
+    write_out(rt, &out[..n]);
 }
 
 // After a line the text is read on from `next`, unless the run is over.
@@ -100,6 +104,7 @@ fn go_on(run: Run, next: usize, at: Place) -> Turn
 
 // A line of the script, which stands in the window up to `end`.
 fn line(
+    rt: &(impl Print + Eprint),
     at: Place,
     end: usize,
     next: usize,
@@ -127,7 +132,7 @@ fn line(
         out,
     );
     let n = step.written;
-    if !write_out(&out[..n]) {
+    if !write_out(rt, &out[..n]) {
         return Turn::Stop;
     }
     let after = step.run;
@@ -136,6 +141,7 @@ fn line(
 
 // One line, or one read.
 fn take_turn(
+    rt: &(impl Input + Print + Eprint),
     at: Place,
     window: &mut [u8],
     desk: &mut [u8],
@@ -151,18 +157,19 @@ fn take_turn(
     match window::next_line(window, at.from, at.to, at.ended) {
         Next::Over => {
             let run = at.run;
-            over(run, out);
+            over(rt, run, out);
             Turn::Stop
         }
-        Next::More => more(at, window, out),
+        Next::More => more(rt, at, window, out),
         Next::Line { end, next } => line(
-            at, end, next, window, desk, tree, path, record, leaves, out,
+            rt, at, end, next, window, desk, tree, path, record, leaves, out,
         ),
     }
 }
 
 // A proved loop has to end, and nothing says that a script does. So the loop counts its turns down, from a number that no run uses up.
 pub fn run_script(
+    rt: &(impl Input + Print + Eprint),
     window: &mut [u8],
     desk: &mut [u8],
     tree: &mut [u8],
@@ -181,7 +188,7 @@ pub fn run_script(
     };
     let mut turns = u64::MAX;
     while 0 < turns {
-        match take_turn(at, window, desk, tree, path, record, leaves, out) {
+        match take_turn(rt, at, window, desk, tree, path, record, leaves, out) {
             Turn::Stop => {
                 return;
             }
