@@ -1,5 +1,5 @@
 #!/usr/bin/env python3
-"""Brings the repository's own names to the spelling of today's Rattle, after /opt/rattle/port/port.py has run.
+"""Brings the repository's own names to the spelling of today's Rattle, after the kit's port.py has run.
 
 usage: respell.py [--check] ROOT
 
