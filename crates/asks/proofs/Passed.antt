@@ -1,4 +1,5 @@
 -- What is known where ask refuses nothing, and that its refusals change nothing. Assumes nothing.
+use Rattle.std.specs.Prelude.{Err, Ok}
 use Prim.Native.Nat.{ℕ, ◌≤◌, ◌<◌}
 use mathlib.Core.Path.{◌≡◌, refl}
 use mathlib.Core.Bool.{true}
@@ -13,7 +14,6 @@ use Rattle.sizes.specs.Sizes.{leaves, request_head}
 use Rattle.sizes.specs.Refusals.{NoneOf}
 use Rattle.sizes.proofs.Rows.{none-applies}
 use Rattle.sizes.specs.declared.Refusal.{Refusal}
-use Rattle.sizes.specs.declared.Outcome.TheVariants.{Done, Refused}
 use Rattle.desk.specs.declared.Kind.{Kind}
 use Rattle.desk.specs.Layout.{ids_of, shape_of}
 use Rattle.desk.specs.Readers.{sizes_of, status_of}
@@ -32,7 +32,7 @@ pub record AskPassed (desk : List ℕ) (kind : Kind) (id leaf : ℕ) (rec : List
   pub leaf_high : leaf < leaves (sizes_of desk)
   pub fits : record_fits (shape_of desk).r kind rec ≡ true
 
-pub ask-passed : {desk : List ℕ} {kind : Kind} {id leaf : ℕ} {rec : List ℕ} → ask_checked desk kind id leaf rec ≡ Done → AskPassed desk kind id leaf rec
+pub ask-passed : {desk : List ℕ} {kind : Kind} {id leaf : ℕ} {rec : List ℕ} → ask_checked desk kind id leaf rec ≡ Ok tt → AskPassed desk kind id leaf rec
 unfolding ask_checked
 ask-passed {desk} {kind} {id} {leaf} {rec} h =
     let n : NoneOf (ask_rows desk kind id leaf rec) = none-applies (ask_rows desk kind id leaf rec) h in
@@ -50,7 +50,7 @@ ask-passed {desk} {kind} {id} {leaf} {rec} h =
       fits = not-false _ n.1.1.1.1.1.0;
     }
 
-pub ask-spares : (desk : List ℕ) (kind : Kind) (id leaf : ℕ) (rec : List ℕ) {r : Refusal} → ask_checked desk kind id leaf rec ≡ Refused r → (d : List ℕ) → stopped r d ≡ d
+pub ask-spares : (desk : List ℕ) (kind : Kind) (id leaf : ℕ) (rec : List ℕ) {r : Refusal} → ask_checked desk kind id leaf rec ≡ Err r → (d : List ℕ) → stopped r d ≡ d
 unfolding ask_checked
 ask-spares desk kind id leaf rec {r} h d =
     spared (ask_rows desk kind id leaf rec) ((λ x. refl), ((λ x. refl), ((λ x. refl), ((λ x. refl), ((λ x. refl), ((λ x. refl), tt)))))) r h d

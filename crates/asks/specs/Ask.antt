@@ -1,13 +1,11 @@
 -- Ask: what it answers and what the desk then holds, on every input. Assumes nothing.
-use Rattle.std.specs.Prelude.{ℕ, Bool, true, not, ◌&&◌, List, [], ◌∷◌, ◌++◌, length, leb, eqb}
+use Rattle.std.specs.Prelude.{ℕ, Bool, true, not, ◌&&◌, List, [], ◌∷◌, ◌++◌, length, leb, eqb, Err, Ok, Result}
 use Rattle.words.specs.Bytes.{zeros}
 use Rattle.words.specs.Numbers.{bytes_of}
 use Rattle.sizes.specs.Sizes.{leaves}
 use Rattle.sizes.specs.Refusals.{number_of, first_of}
 use Rattle.sizes.specs.declared.Refusal.{Refusal}
 use Rattle.sizes.specs.declared.Refusal.TheVariants.{BadDesk, Stopped, Open, BadId, BadLeaf, BadLength}
-use Rattle.sizes.specs.declared.Outcome.{Outcome}
-use Rattle.sizes.specs.declared.Outcome.TheVariants.{Done, Refused}
 use Rattle.desk.specs.declared.Kind.{Kind}
 use Rattle.desk.specs.declared.Kind.TheVariants.{Read, Write}
 use Rattle.desk.specs.Layout.{ids_of, shape_of}
@@ -16,8 +14,6 @@ use Rattle.desk.specs.Numbers.{kind_of}
 use Rattle.desk.specs.Status.{open_status, first_stopped, at_status, stopped_or}
 use Rattle.desk.specs.Good.{good_desk}
 use Rattle.desk.specs.Changes.{with_request}
-use Rattle.asks.specs.declared.Asked.{Asked}
-use Rattle.asks.specs.declared.Asked.TheVariants as asked
 
 -- ---- the refusals, in order
 
@@ -36,7 +32,7 @@ ask_rows desk kind id leaf rec =
     ∷ (not (record_fits (shape_of desk).r kind rec), BadLength)
     ∷ []
 
-unfoldable pub ask_checked : List ℕ → Kind → ℕ → ℕ → List ℕ → Outcome
+unfoldable pub ask_checked : List ℕ → Kind → ℕ → ℕ → List ℕ → Result Unit Refusal
 ask_checked desk kind id leaf rec = first_of (ask_rows desk kind id leaf rec)
 
 -- ---- the request opened: kind, zero, id 2, new leaf 2, two zeros, record
@@ -56,15 +52,15 @@ opened desk kind id leaf rec = at_status open_status (with_request (request_byte
 
 -- ---- what ask answers, and what the desk then holds
 
-abbrev pub asked_of : Outcome → ℕ → Asked
-asked_of (Refused r) position = asked.Refused r
-asked_of Done position = asked.Leaf position
+abbrev pub asked_of : Result Unit Refusal → ℕ → Result ℕ Refusal
+asked_of (Err r) position = Err r
+asked_of (Ok tt) position = Ok position
 
 pub record AskResult : Type 0 where
-  pub answer : Asked
+  pub answer : Result ℕ Refusal
   pub desk : List ℕ
 
-abbrev pub ask_result : Asked → List ℕ → AskResult
+abbrev pub ask_result : Result ℕ Refusal → List ℕ → AskResult
 ask_result a d = record { answer = a; desk = d }
 
 abbrev pub ask_of : List ℕ → Kind → ℕ → ℕ → List ℕ → AskResult
@@ -72,6 +68,6 @@ ask_of desk kind id leaf rec =
     ask_result (asked_of (ask_checked desk kind id leaf rec) (position_of desk id)) (stopped_or (ask_checked desk kind id leaf rec) desk (opened desk kind id leaf rec))
 
 -- each answer's number in the paper, 0 where nothing is refused, and its values
-abbrev pub asked_value : Asked → ℕ × List ℕ
-asked_value (asked.Leaf position) = (0, position ∷ [])
-asked_value (asked.Refused r) = (number_of r, [])
+abbrev pub asked_value : Result ℕ Refusal → ℕ × List ℕ
+asked_value (Ok position) = (0, position ∷ [])
+asked_value (Err r) = (number_of r, [])

@@ -7,13 +7,7 @@ ghost use Rattle.desk.specs.Layout.{Whole, shape_of};
 ghost use Rattle.asks.specs.Ask.{record_fits, ask_checked, head_bytes, record_bytes, opened, ask_of, ask_result};
 
 use desk::Kind;
-use sizes::{Outcome, Refusal};
-
-#[derive(Clone, Copy, Drop)]
-pub enum Asked {
-    Leaf(u16),
-    Refused(Refusal),
-}
+use sizes::Refusal;
 
 // Whether the lent record fits the kind, where a record has `r` bytes.
 fn record_fits(kind: Kind, record: &[u8], r: usize) -> bool
@@ -26,31 +20,31 @@ fn record_fits(kind: Kind, record: &[u8], r: usize) -> bool
 }
 
 // The refusals of ask, in order.
-fn ask_checked(desk: &[u8], kind: Kind, id: u16, leaf: u16, record: &[u8]) -> Outcome
+fn ask_checked(desk: &[u8], kind: Kind, id: u16, leaf: u16, record: &[u8]) -> Result<(), Refusal>
     ensures { result ≡ ask_checked desk.now kind id leaf «record».now }
 {
     if !desk::good(desk) {
-        return Outcome::Refused(Refusal::BadDesk);
+        return Err(Refusal::BadDesk);
     }
     let status = desk[desk::STATUS];
     if desk::FIRST_STOPPED <= status {
-        return Outcome::Refused(Refusal::Stopped);
+        return Err(Refusal::Stopped);
     }
     if status == desk::OPEN {
-        return Outcome::Refused(Refusal::Open);
+        return Err(Refusal::Open);
     }
     let h = desk::shape_of(desk);
     let within = (1 <= id) & (id as usize <= h.n);
     if !within {
-        return Outcome::Refused(Refusal::BadId);
+        return Err(Refusal::BadId);
     }
     if desk::sizes_of(desk).leaves() <= leaf as usize {
-        return Outcome::Refused(Refusal::BadLeaf);
+        return Err(Refusal::BadLeaf);
     }
     if !record_fits(kind, record, h.r) {
-        return Outcome::Refused(Refusal::BadLength);
+        return Err(Refusal::BadLength);
     }
-    Outcome::Done
+    Ok(())
 }
 
 // The first bytes of body (c).
@@ -93,16 +87,18 @@ fn open_request(desk: &mut [u8], kind: Kind, id: u16, leaf: u16, record: &[u8])
     desk[desk::STATUS] = desk::OPEN;
 }
 
-pub fn ask(desk: &mut [u8], kind: Kind, id: u16, leaf: u16, record: &[u8]) -> Asked
+// The answer is the id's position: the leaf that is asked for.
+pub fn ask(
+    desk: &mut [u8],
+    kind: Kind,
+    id: u16,
+    leaf: u16,
+    record: &[u8],
+) -> Result<u16, Refusal>
     ensures { ask_result result desk.new ≡ ask_of desk.old kind id leaf «record».now }
 {
-    let checked = ask_checked(desk, kind, id, leaf, record);
-    match checked {
-        Outcome::Refused(r) => Asked::Refused(r),
-        Outcome::Done => {
-            let position = desk::position(desk, id as usize);
-            open_request(desk, kind, id, leaf, record);
-            Asked::Leaf(position)
-        }
-    }
+    ask_checked(desk, kind, id, leaf, record)?;
+    let position = desk::position(desk, id as usize);
+    open_request(desk, kind, id, leaf, record);
+    Ok(position)
 }

@@ -1,4 +1,5 @@
 -- One read of a row: what the request is known for gives its column, or the store's refusal. Assumes nothing.
+use Rattle.std.specs.Prelude.{Result}
 use Prim.Native.Nat.{ℕ}
 use mathlib.Core.Path.{◌≡◌, sym, ap, ◌∙◌}
 use mathlib.Core.List.{List}
@@ -22,5 +23,5 @@ module _ (chapter : ℕ) (desk tree path buffer : List ℕ) (id draw : ℕ) {a :
   pub read-refused : {q : Refusal} → a ≡ answered.Refused q → looked (found.Refused q) d t p b ≡ read_of chapter desk tree path buffer id draw
   read-refused h = looked-at (sym (ap (λ (x : Answered). found_by chapter x b) h))
 
-  pub read-finished : {leaf : ℕ} {f : Finished} {r : Found} → a ≡ answered.Asked leaf f → r ≡ found_of chapter f b → looked r d t p b ≡ read_of chapter desk tree path buffer id draw
+  pub read-finished : {leaf : ℕ} {f : Result Finished Refusal} {r : Found} → a ≡ answered.Asked leaf f → r ≡ found_of chapter f b → looked r d t p b ≡ read_of chapter desk tree path buffer id draw
   read-finished h k = looked-at (k ∙ sym (ap (λ (x : Answered). found_by chapter x b) h))

@@ -1,4 +1,5 @@
 -- What is known where a row's checks refuse nothing, and what the row then is. Assumes nothing.
+use Rattle.std.specs.Prelude.{Err, Ok, Result}
 use Prim.Native.Nat.{ℕ, ◌+◌, ◌-◌, ◌≤◌, ◌<◌}
 use mathlib.Core.Path.{◌≡◌, sym, ap, ap₂, ◌∙◌}
 use mathlib.Core.Bool.{true}
@@ -9,8 +10,6 @@ use borrow.Author.Tests.{leb-true, ltb-true, eqb-true, not-false}
 use Rattle.words.specs.Bytes.{zeros}
 use Rattle.words.proofs.Tests.{each}
 use Rattle.sizes.specs.declared.Refusal.{Refusal}
-use Rattle.sizes.specs.declared.Outcome.{Outcome}
-use Rattle.sizes.specs.declared.Outcome.TheVariants as outcome
 use Rattle.sizes.specs.Refusals.{NoneOf}
 use Rattle.sizes.specs.Sizes.{record_len, path_len, tree_len}
 use Rattle.sizes.proofs.Rows.{none-applies}
@@ -41,7 +40,7 @@ pub record RowPassed (desk tree : List ℕ) (first end : ℕ) (draws : List ℕ)
   pub draws_length : length draws ≡ end - first
   pub tree_length : length tree ≡ tree_len (sizes_of desk)
 
-pub row-passed : {desk tree : List ℕ} {first end : ℕ} {draws : List ℕ} → row_checked desk tree first end draws ≡ outcome.Done → RowPassed desk tree first end draws
+pub row-passed : {desk tree : List ℕ} {first end : ℕ} {draws : List ℕ} → row_checked desk tree first end draws ≡ Ok tt → RowPassed desk tree first end draws
 unfolding row_checked
 row-passed {desk} {tree} {first} {end} {draws} h =
     let n : NoneOf (row_rows desk tree first end draws) = none-applies (row_rows desk tree first end draws) h in
@@ -58,13 +57,13 @@ row-passed {desk} {tree} {first} {end} {draws} h =
 -- ---- the row, by its checks
 
 module _ (desk tree : List ℕ) (chapter first end : ℕ) (draws : List ℕ) where
-  by-checks : {o : Outcome} → row_checked desk tree first end draws ≡ o → row_by o desk tree chapter first end draws ≡ row_of desk tree chapter first end draws
-  by-checks h = ap (λ (x : Outcome). row_by x desk tree chapter first end draws) (sym h)
+  by-checks : {o : Result Unit Refusal} → row_checked desk tree first end draws ≡ o → row_by o desk tree chapter first end draws ≡ row_of desk tree chapter first end draws
+  by-checks h = ap (λ (x : Result Unit Refusal). row_by x desk tree chapter first end draws) (sym h)
 
-  pub row-refused : {q : Refusal} → row_checked desk tree first end draws ≡ outcome.Refused q → rowed (Refused q) desk tree ≡ row_of desk tree chapter first end draws
+  pub row-refused : {q : Refusal} → row_checked desk tree first end draws ≡ Err q → rowed (Refused q) desk tree ≡ row_of desk tree chapter first end draws
   row-refused h = by-checks h
 
-  pub row_done : row_checked desk tree first end draws ≡ outcome.Done → {path buffer : List ℕ} → path ≡ zeros (path_len (sizes_of desk)) → buffer ≡ zeros record_len
+  pub row_done : row_checked desk tree first end draws ≡ Ok tt → {path buffer : List ℕ} → path ≡ zeros (path_len (sizes_of desk)) → buffer ≡ zeros record_len
       → {a : Row} {d t p b : List ℕ} → ran a d t p b ≡ row_from chapter (end - first) first draws no_counts desk tree path buffer
       → rowed a d t ≡ row_of desk tree chapter first end draws
   row_done h e f k =

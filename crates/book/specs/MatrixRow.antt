@@ -1,11 +1,9 @@
 -- A matrix row: a chapter's counts over the ids from a first up to, not including, an end, read through the store. What it answers, and what desk and
 -- tree then hold, on every input. Assumes nothing.
-use Rattle.std.specs.Prelude.{ℕ, suc, ◌+◌, ◌-◌, Bool, not, ◌&&◌, List, [], ◌∷◌, length, leb, ltb, eqb}
+use Rattle.std.specs.Prelude.{ℕ, suc, ◌+◌, ◌-◌, Bool, not, ◌&&◌, List, [], ◌∷◌, length, leb, ltb, eqb, Err, Ok, Result}
 use Rattle.words.specs.Bytes.{zeros}
 use Rattle.sizes.specs.declared.Refusal.{Refusal}
 use Rattle.sizes.specs.declared.Refusal.TheVariants.{BadDesk, BadId, BadLength}
-use Rattle.sizes.specs.declared.Outcome.{Outcome}
-use Rattle.sizes.specs.declared.Outcome.TheVariants as outcome
 use Rattle.sizes.specs.Refusals.{first_of}
 use Rattle.sizes.specs.Sizes.{record_len, path_len, tree_len}
 use Rattle.desk.specs.declared.Kind.TheVariants.{Read}
@@ -37,7 +35,7 @@ row_rows desk tree first end draws =
     ∷ (not (eqb (length draws) (end - first) && eqb (length tree) (tree_len (sizes_of desk))), BadLength)
     ∷ []
 
-unfoldable pub row_checked : List ℕ → List ℕ → ℕ → ℕ → List ℕ → Outcome
+unfoldable pub row_checked : List ℕ → List ℕ → ℕ → ℕ → List ℕ → Result Unit Refusal
 row_checked desk tree first end draws = first_of (row_rows desk tree first end draws)
 
 -- ---- a read of one id: its column, or the store's refusal; and what the four buffers then hold
@@ -102,9 +100,9 @@ rowed a d t = record { answer = a; desk = d; tree = t }
 abbrev pub ended : RunResult → RowResult
 ended r = rowed r.answer r.desk r.tree
 
-abbrev pub row_by : Outcome → List ℕ → List ℕ → ℕ → ℕ → ℕ → List ℕ → RowResult
-row_by (outcome.Refused q) desk tree chapter first end draws = rowed (Refused q) desk tree
-row_by outcome.Done desk tree chapter first end draws =
+abbrev pub row_by : Result Unit Refusal → List ℕ → List ℕ → ℕ → ℕ → ℕ → List ℕ → RowResult
+row_by (Err q) desk tree chapter first end draws = rowed (Refused q) desk tree
+row_by (Ok tt) desk tree chapter first end draws =
     ended (row_from chapter (end - first) first draws no_counts desk tree (zeros (path_len (sizes_of desk))) (zeros record_len))
 
 abbrev pub row_of : List ℕ → List ℕ → ℕ → ℕ → ℕ → List ℕ → RowResult

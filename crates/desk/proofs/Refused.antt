@@ -1,4 +1,5 @@
 -- What a refusal leaves of a desk: nothing is changed where no row of an entry stops it, and a desk that is stopped while open stays good. Assumes nothing.
+use Rattle.std.specs.Prelude.{Err, Result}
 use Prim.Native.Nat.{ℕ, ◌≤◌}
 use mathlib.Core.Path.{◌≡◌, refl}
 use mathlib.Core.Bool.{Bool, true, false, cond}
@@ -7,8 +8,6 @@ use native.Mathlib.Omega.{arith}
 use borrow.Author.Tests.{eqb-false}
 use Rattle.sizes.specs.declared.Refusal.{Refusal}
 use Rattle.sizes.specs.declared.Refusal.TheVariants.{BadDesk, Stopped, Open, NotOpen, BadId, BadLeaf, BadLength, BadSize, Forged, Worn, Full}
-use Rattle.sizes.specs.declared.Outcome.{Outcome}
-use Rattle.sizes.specs.declared.Outcome.TheVariants.{Refused}
 use Rattle.sizes.specs.Refusals.{first_of}
 use Rattle.desk.specs.Readers.{status_of}
 use Rattle.desk.specs.Status.{ready_status, forged_status, worn_status, full_status, most_status, at_status, stopped}
@@ -22,11 +21,11 @@ abbrev pub Sparing : List (Bool × Refusal) → Type 0
 Sparing [] = Unit
 Sparing (row ∷ rows) = ((d : List ℕ) → stopped row.1 d ≡ d) × Sparing rows
 
-spared-at : (b : Bool) (q r : Refusal) (o : Outcome) (d : List ℕ) → (stopped q d ≡ d) → (o ≡ Refused r → stopped r d ≡ d) → cond b (Refused q) o ≡ Refused r → stopped r d ≡ d
+spared-at : (b : Bool) (q r : Refusal) (o : Result Unit Refusal) (d : List ℕ) → (stopped q d ≡ d) → (o ≡ Err r → stopped r d ≡ d) → cond b (Err q) o ≡ Err r → stopped r d ≡ d
 spared-at true q r o d k f h = let e : q ≡ r = cc in rw e at k
 spared-at false q r o d k f h = f h
 
-pub spared : (rows : List (Bool × Refusal)) → Sparing rows → (r : Refusal) → first_of rows ≡ Refused r → (d : List ℕ) → stopped r d ≡ d
+pub spared : (rows : List (Bool × Refusal)) → Sparing rows → (r : Refusal) → first_of rows ≡ Err r → (d : List ℕ) → stopped r d ≡ d
 spared [] k r h d = let z : ◌≡◌ {A = ℕ} 0 1 = cc in absurd (omega arith)
 spared (row ∷ rows) k r h d = spared-at row.0 row.1 r (first_of rows) d (k.0 d) (λ e. spared rows k.1 r e d) h
 

@@ -1,9 +1,7 @@
 -- Statuses, and what a refusal changes in a desk. Assumes nothing.
-use Rattle.std.specs.Prelude.{ℕ, List, set}
+use Rattle.std.specs.Prelude.{ℕ, List, set, Err, Ok, Result}
 use Rattle.sizes.specs.declared.Refusal.{Refusal}
 use Rattle.sizes.specs.declared.Refusal.TheVariants.{BadDesk, Stopped, Open, NotOpen, BadId, BadLeaf, BadLength, BadSize, Forged, Worn, Full}
-use Rattle.sizes.specs.declared.Outcome.{Outcome}
-use Rattle.sizes.specs.declared.Outcome.TheVariants.{Done, Refused}
 use Rattle.desk.specs.Layout.{status_at}
 
 abbrev pub ready_status : ℕ
@@ -48,6 +46,6 @@ stopped Worn desk = at_status worn_status desk
 stopped Full desk = at_status full_status desk
 
 -- what a desk holds after an entry
-abbrev pub stopped_or : Outcome → List ℕ → List ℕ → List ℕ
-stopped_or (Refused r) old new = stopped r old
-stopped_or Done old new = new
+abbrev pub stopped_or : Result Unit Refusal → List ℕ → List ℕ → List ℕ
+stopped_or (Err r) old new = stopped r old
+stopped_or (Ok tt) old new = new

@@ -1,4 +1,5 @@
 -- Small numbers as signed ones of 32 bits, and their negatives. Assumes nothing.
+use Rattle.std.specs.Prelude.{Err, Ok, Result}
 use mathlib.Core.Path.{◌≡◌, refl, ap, ◌∙◌}
 use Prim.Native.Nat.{ℕ, zero, suc, ◌-◌, ◌^◌, ◌≤◌, ◌<◌}
 use native.Mathlib.Omega.{arith}
@@ -10,8 +11,6 @@ use mir.Facts.{to_z_pos, to_z-of_z}
 use Rattle.sizes.specs.declared.Refusal.{Refusal}
 use Rattle.sizes.specs.declared.Refusal.TheVariants.{BadDesk, Stopped, Open, NotOpen, BadId, BadLeaf, BadLength, BadSize, Forged, Worn, Full}
 use Rattle.sizes.specs.Refusals.{number_of}
-use Rattle.sizes.specs.declared.Outcome.{Outcome}
-use Rattle.sizes.specs.declared.Outcome.TheVariants.{Done, Refused}
 use Rattle.exports.specs.Codes.{refusal_code, outcome_code}
 
 zero_minus : (n : ℕ) → pos 0 -ℤ pos n ≡ neg_ℤ (pos n)
@@ -54,7 +53,7 @@ pub code-back : (r : Refusal) {z : ℤ} → z ≡ refusal_code r → to_z w32 (o
 code-back r e = ap (λ (z : ℤ). to_z w32 (of_z w32 z)) e ∙ back (refusal-fits r)
 
 -- so is the code of an outcome read back as it was
-pub outcome-back : (o : Outcome) {z : ℤ} → z ≡ outcome_code o → to_z w32 (of_z w32 z) ≡ outcome_code o
+pub outcome-back : (o : Result Unit Refusal) {z : ℤ} → z ≡ outcome_code o → to_z w32 (of_z w32 z) ≡ outcome_code o
 unfolding outcome_code
-outcome-back Done e = ap (λ (z : ℤ). to_z w32 (of_z w32 z)) e
-outcome-back (Refused r) e = code-back r e
+outcome-back (Ok tt) e = ap (λ (z : ℤ). to_z w32 (of_z w32 z)) e
+outcome-back (Err r) e = code-back r e

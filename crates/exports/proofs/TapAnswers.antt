@@ -1,4 +1,6 @@
 -- What the functions of TAP answer: their numbers fit, so that they are read back as they were, and a text is never longer than its buffer. Assumes nothing.
+use Rattle.std.specs.Prelude.{Err, Ok, Result}
+use Rattle.sizes.specs.declared.Refusal.{Refusal}
 use Prim.Native.Nat.{ℕ, ◌+◌, ◌-◌, ◌^◌, ◌≤◌, ◌<◌}
 use mathlib.Core.Path.{◌≡◌, refl, sym, ap, ◌∙◌}
 use mathlib.Core.List.{List, ◌++◌}
@@ -8,8 +10,6 @@ use lib.ListN.{length, take, drop, length-append}
 use mir.Syntax.{w32}
 use mir.Val.{SFits, to_z, of_z}
 use Rattle.words.specs.Bytes.{splice}
-use Rattle.sizes.specs.declared.Outcome.{Outcome}
-use Rattle.sizes.specs.declared.Outcome.TheVariants as outcome
 use Rattle.taking.specs.declared.Trouble.{Trouble}
 use Rattle.taking.specs.declared.Trouble.TheVariants.{Malformed, BadPlan}
 use Rattle.taking.specs.Taking.{trouble_number}
@@ -51,13 +51,13 @@ unfolding splice
 splice-long xs ys = omega (arith, length-append (take 0 xs) (ys ++ drop (0 + length ys) xs), length-append ys (drop (0 + length ys) xs))
 
 -- what was handed out has the buffer's length, and the text lies in it
-by-pass : (chapter n : ℕ) (r : SheetResult) (out d t o : List ℕ) (len : ℕ) → length o ≡ length out → (x : Outcome)
+by-pass : (chapter n : ℕ) (r : SheetResult) (out d t o : List ℕ) (len : ℕ) → length o ≡ length out → (x : Result Unit Refusal)
     → wrote (printed.Length len) d t o ≡ printed_by x chapter n r out → len ≤ length out
-by-pass chapter n r out d t o len k (outcome.Refused q) e =
+by-pass chapter n r out d t o len k (Err q) e =
     let a : printed.Length len ≡ printed.Refused q = ap (λ (w : WriteResult). w.answer) e in
     let z : ◌≡◌ {A = ℕ} 0 1 = cc in
     absurd (omega arith)
-by-pass chapter n r out d t o len k outcome.Done e =
+by-pass chapter n r out d t o len k (Ok tt) e =
     let ys = text_of chapter n r.sheet in
     let a : printed.Length len ≡ printed.Length (length ys) = ap (λ (w : WriteResult). w.answer) e in
     let l : len ≡ length ys = cc in
@@ -65,13 +65,13 @@ by-pass chapter n r out d t o len k outcome.Done e =
     omega (arith, l, m, k, splice-long out ys)
 
 module _ (desk tree : List ℕ) (chapter first end : ℕ) (draws out d t o : List ℕ) (len : ℕ) (high : end < 65536) (k : length o ≡ length out) where
-  by-checks : (x : Outcome) → write_checked desk tree first end draws out ≡ x
+  by-checks : (x : Result Unit Refusal) → write_checked desk tree first end draws out ≡ x
       → wrote (printed.Length len) d t o ≡ write_by x desk tree chapter first end draws out → len < 2 ^ 31
-  by-checks (outcome.Refused q) h e =
+  by-checks (Err q) h e =
       let a : printed.Length len ≡ printed.Refused q = ap (λ (w : WriteResult). w.answer) e in
       let z : ◌≡◌ {A = ℕ} 0 1 = cc in
       absurd (omega arith)
-  by-checks outcome.Done h e =
+  by-checks (Ok tt) h e =
       let r = pass_of desk tree first draws (empty_sheet (end - first)) in
       omega (arith, by-pass chapter (end - first) r out d t o len k r.answer e, (write-passed h).room, high)
 

@@ -1,11 +1,7 @@
 -- The numbers that the C interface answers with. A refusal is its number, negative. Assumes nothing.
-use Rattle.std.specs.Prelude.{ℕ, ◌≡◌, cond, List, ℤ, pos, neg_ℤ}
+use Rattle.std.specs.Prelude.{ℕ, ◌≡◌, cond, List, ℤ, pos, neg_ℤ, Err, Ok, Result}
 use Rattle.sizes.specs.declared.Refusal.{Refusal}
-use Rattle.sizes.specs.declared.Outcome.{Outcome}
-use Rattle.sizes.specs.declared.Outcome.TheVariants.{Done, Refused}
 use Rattle.sizes.specs.Refusals.{number_of}
-use Rattle.asks.specs.declared.Asked.{Asked}
-use Rattle.asks.specs.declared.Asked.TheVariants as asked
 use Rattle.store.specs.declared.Finished.{Finished}
 use Rattle.store.specs.declared.Finished.TheVariants as finished
 use Rattle.store.specs.Finish.{FinishResult}
@@ -16,21 +12,21 @@ unfoldable pub refusal_code : Refusal → ℤ
 refusal_code r = neg_ℤ (pos (number_of r))
 
 -- format, fetch, put: 0 when done
-unfoldable pub outcome_code : Outcome → ℤ
-outcome_code Done = pos 0
-outcome_code (Refused r) = refusal_code r
+unfoldable pub outcome_code : Result Unit Refusal → ℤ
+outcome_code (Ok tt) = pos 0
+outcome_code (Err r) = refusal_code r
 
 -- ask: the leaf
-unfoldable pub asked_code : Asked → ℤ
-asked_code (asked.Leaf position) = pos position
-asked_code (asked.Refused r) = refusal_code r
+unfoldable pub asked_code : Result ℕ Refusal → ℤ
+asked_code (Ok position) = pos position
+asked_code (Err r) = refusal_code r
 
 -- finish: 1 Record, 2 Never, 3 Done; 0 is none of them
-unfoldable pub finished_code : Finished → ℤ
-finished_code finished.Record = pos 1
-finished_code finished.Never = pos 2
-finished_code finished.Done = pos 3
-finished_code (finished.Refused r) = refusal_code r
+unfoldable pub finished_code : Result Finished Refusal → ℤ
+finished_code (Ok finished.Record) = pos 1
+finished_code (Ok finished.Never) = pos 2
+finished_code (Ok finished.Done) = pos 3
+finished_code (Err r) = refusal_code r
 
 -- a length that sizes give: 0 where a size is out of range
 unfoldable pub length_by : (Sizes → ℕ) → Sizes → ℕ

@@ -1,4 +1,5 @@
 -- What is known where format refuses nothing, that its refusals change nothing, and that its result is determined. Assumes nothing.
+use Rattle.std.specs.Prelude.{Err, Ok, Result}
 use Prim.Native.Nat.{ℕ, ◌≤◌}
 use mathlib.Core.Path.{◌≡◌, refl, sym, ap, ◌∙◌}
 use mathlib.Core.Bool.{true, ◌&&◌}
@@ -12,8 +13,6 @@ use Rattle.sizes.specs.Refusals.{NoneOf}
 use Rattle.sizes.proofs.Lengths.{sizes-range}
 use Rattle.sizes.proofs.Rows.{none-applies}
 use Rattle.sizes.specs.declared.Refusal.{Refusal}
-use Rattle.sizes.specs.declared.Outcome.{Outcome}
-use Rattle.sizes.specs.declared.Outcome.TheVariants.{Done, Refused}
 use Rattle.desk.specs.Status.{stopped}
 use Rattle.desk.proofs.Known.{ids-known}
 use Rattle.desk.proofs.Refused.{spared}
@@ -29,7 +28,7 @@ pub record FormatPassed (desk : List ℕ) (l z room n : ℕ) (key starts : List 
   pub leaves_are_good : are_leaves (leaves (sized l z)) starts ≡ true
 
 module _ (desk : List ℕ) (l z room n : ℕ) (key starts : List ℕ) where
-  pub format-passed : format_checked desk l z room n key starts ≡ Done → FormatPassed desk l z room n key starts
+  pub format-passed : format_checked desk l z room n key starts ≡ Ok tt → FormatPassed desk l z room n key starts
   unfolding format_checked
   format-passed h =
       let k : NoneOf (format_rows desk l z room n key starts) = none-applies (format_rows desk l z room n key starts) h in
@@ -46,10 +45,10 @@ module _ (desk : List ℕ) (l z room n : ℕ) (key starts : List ℕ) where
         leaves_are_good = not-false _ k.1.1.0;
       }
 
-  pub format-spares : {r : Refusal} → format_checked desk l z room n key starts ≡ Refused r → (d : List ℕ) → stopped r d ≡ d
+  pub format-spares : {r : Refusal} → format_checked desk l z room n key starts ≡ Err r → (d : List ℕ) → stopped r d ≡ d
   unfolding format_checked
   format-spares {r} h d = spared (format_rows desk l z room n key starts) ((λ x. refl), ((λ x. refl), ((λ x. refl), tt))) r h d
 
   -- two results that the contract allows are equal
-  pub format_once : {a b : Outcome} {d e : List ℕ} → format_result a d ≡ format_of desk l z room n key starts → format_result b e ≡ format_of desk l z room n key starts → (a ≡ b) × (d ≡ e)
+  pub format_once : {a b : Result Unit Refusal} {d e : List ℕ} → format_result a d ≡ format_of desk l z room n key starts → format_result b e ≡ format_of desk l z room n key starts → (a ≡ b) × (d ≡ e)
   format_once p q = (ap (λ (r : FormatResult). r.answer) (p ∙ sym q), ap (λ (r : FormatResult). r.desk) (p ∙ sym q))

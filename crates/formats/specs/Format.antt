@@ -1,5 +1,5 @@
 -- Format: a good desk with nothing written, or a refusal, on every input. Assumes nothing.
-use Rattle.std.specs.Prelude.{ℕ, Bool, not, ◌&&◌, List, [], ◌∷◌, ◌++◌, length, get_or, ltb, eqb}
+use Rattle.std.specs.Prelude.{ℕ, Bool, not, ◌&&◌, List, [], ◌∷◌, ◌++◌, length, get_or, ltb, eqb, Err, Ok, Result}
 use Rattle.words.specs.Bytes.{zeros}
 use Rattle.words.specs.Numbers.{bytes_of}
 use Rattle.words.specs.Tests.{all}
@@ -7,8 +7,6 @@ use Rattle.sizes.specs.Sizes.{sized, sizes_good, ids_good, leaves, desk_len, key
 use Rattle.sizes.specs.Refusals.{number_of, first_of}
 use Rattle.sizes.specs.declared.Refusal.{Refusal}
 use Rattle.sizes.specs.declared.Refusal.TheVariants.{BadLeaf, BadLength, BadSize}
-use Rattle.sizes.specs.declared.Outcome.{Outcome}
-use Rattle.sizes.specs.declared.Outcome.TheVariants.{Done, Refused}
 use Rattle.desk.specs.declared.Shape.{Shape}
 use Rattle.desk.specs.Layout.{contents, c_len, e_len}
 use Rattle.desk.specs.Status.{ready_status, stopped_or}
@@ -26,7 +24,7 @@ format_rows desk l z room n key starts =
     ∷ (not (are_leaves (leaves (sized l z)) starts), BadLeaf)
     ∷ []
 
-unfoldable pub format_checked : List ℕ → ℕ → ℕ → ℕ → ℕ → List ℕ → List ℕ → Outcome
+unfoldable pub format_checked : List ℕ → ℕ → ℕ → ℕ → ℕ → List ℕ → List ℕ → Result Unit Refusal
 format_checked desk l z room n key starts = first_of (format_rows desk l z room n key starts)
 
 -- ---- the desk: status 0, root written 0, root digest zero, no request, marks 0, empty stash
@@ -55,10 +53,10 @@ formatted l z room n key starts =
 -- ---- what format answers, and what the desk then holds
 
 pub record FormatResult : Type 0 where
-  pub answer : Outcome
+  pub answer : Result Unit Refusal
   pub desk : List ℕ
 
-abbrev pub format_result : Outcome → List ℕ → FormatResult
+abbrev pub format_result : Result Unit Refusal → List ℕ → FormatResult
 format_result a d = record { answer = a; desk = d }
 
 abbrev pub format_of : List ℕ → ℕ → ℕ → ℕ → ℕ → List ℕ → List ℕ → FormatResult
@@ -66,6 +64,6 @@ format_of desk l z room n key starts =
     format_result (format_checked desk l z room n key starts) (stopped_or (format_checked desk l z room n key starts) desk (formatted l z room n key starts))
 
 -- the paper's number of an answer, 0 where nothing is refused
-abbrev pub format_value : Outcome → ℕ
-format_value Done = 0
-format_value (Refused r) = number_of r
+abbrev pub format_value : Result Unit Refusal → ℕ
+format_value (Ok tt) = 0
+format_value (Err r) = number_of r

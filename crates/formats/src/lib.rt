@@ -8,7 +8,7 @@ ghost use Rattle.formats.specs.Format.{are_leaves, format_checked, new_shape, he
 ghost use Rattle.formats.specs.Fits.{Fits};
 
 use desk::Shape;
-use sizes::{Outcome, Refusal, Sizes};
+use sizes::{Refusal, Sizes};
 
 // The shape of a new desk.
 fn new_shape(stash: u8, ids: u16) -> Shape
@@ -46,25 +46,25 @@ fn format_checked(
     ids: u16,
     key: &[u8],
     leaves: &[u16],
-) -> Outcome
+) -> Result<(), Refusal>
     ensures { result ≡ format_checked desk.now height slots stash ids key.now leaves.now }
 {
     let sizes = Sizes::of(height, slots);
     let n = ids as usize;
     let in_range = sizes.good() & desk::ids_good(n);
     if !in_range {
-        return Outcome::Refused(Refusal::BadSize);
+        return Err(Refusal::BadSize);
     }
     let fit = (desk.len() == new_shape(stash, ids).len())
         & (leaves.len() == n)
         & (key.len() == desk::KEY);
     if !fit {
-        return Outcome::Refused(Refusal::BadLength);
+        return Err(Refusal::BadLength);
     }
     if !are_leaves(leaves, sizes.leaves()) {
-        return Outcome::Refused(Refusal::BadLeaf);
+        return Err(Refusal::BadLeaf);
     }
-    Outcome::Done
+    Ok(())
 }
 
 // Body (a) of a new desk.
@@ -130,15 +130,10 @@ pub fn format(
     ids: u16,
     key: &[u8],
     leaves: &[u16],
-) -> Outcome
+) -> Result<(), Refusal>
     ensures { format_result result desk.new ≡ format_of desk.old height slots stash ids key.now leaves.now }
 {
-    let checked = format_checked(desk, height, slots, stash, ids, key, leaves);
-    match checked {
-        Outcome::Refused(r) => Outcome::Refused(r),
-        Outcome::Done => {
-            write_desk(desk, height, slots, stash, ids, key, leaves);
-            Outcome::Done
-        }
-    }
+    format_checked(desk, height, slots, stash, ids, key, leaves)?;
+    write_desk(desk, height, slots, stash, ids, key, leaves);
+    Ok(())
 }

@@ -1,4 +1,5 @@
 -- The requests of a sheet, turn by turn: what is left to do from here comes to what the whole pass is. Assumes nothing.
+use Rattle.std.specs.Prelude.{Err, Ok, Result}
 use Prim.Native.Nat.{ℕ, suc, ◌+◌, ◌-◌, ◌*◌, ◌≤◌, ◌<◌}
 use mathlib.Core.Path.{◌≡◌, sym, ap, ap₂, ◌∙◌}
 use mathlib.Core.List.{List, ◌++◌}
@@ -8,8 +9,6 @@ use lib.Seq.{drop-cons}
 use Rattle.words.specs.Bytes.{part, splice}
 use Rattle.words.proofs.Splice.{length_part, length-splice, spliced}
 use Rattle.sizes.specs.declared.Refusal.{Refusal}
-use Rattle.sizes.specs.declared.Outcome.{Outcome}
-use Rattle.sizes.specs.declared.Outcome.TheVariants as outcome
 use Rattle.sizes.specs.Sizes.{record_len}
 use Rattle.sheets.specs.Sheet.{entry_start, entry_at}
 use Rattle.passing.specs.Passing.{EntryResult, requested_entry, request_entry, PassResult, passed, going_on, pass_from}
@@ -58,7 +57,7 @@ module _ (first end : ℕ) (draws : List ℕ) where
         ∙ sym (ap (λ (xs : List ℕ). pass_from first (id - first) xs desk tree path sheet) (drop-cons draws (id - first) 0 (omega (arith, e, here.from_first)))) ∙ here.rest
 
     -- the code's entry is `k` bytes of the sheet, and comes back with as many
-    module _ (l : id < end) (e : length draws ≡ end - first) {a : Outcome} {d t p ys : List ℕ} (k : ℕ) (m : k ≡ record_len)
+    module _ (l : id < end) (e : length draws ≡ end - first) {a : Result Unit Refusal} {d t p ys : List ℕ} (k : ℕ) (m : k ≡ record_len)
         (h : requested_entry a d t p ys ≡ request_entry desk tree path (part sheet (entry_start (id - first)) k) id (get_or draws (id - first) 0))
         (n : length ys ≡ length (part sheet (entry_start (id - first)) k)) where
       abbrev back : List ℕ
@@ -76,15 +75,15 @@ module _ (first end : ℕ) (draws : List ℕ) where
       back_long : length back ≡ length sheet
       back_long = ap (λ (xs : List ℕ). length xs) back_is ∙ length-splice sheet (entry_start (id - first)) ys (omega (arith, fits, as_long))
 
-      came : {o : Outcome} → a ≡ o → onward (requested_entry o d t p ys) ≡ whole
+      came : {o : Result Unit Refusal} → a ≡ o → onward (requested_entry o d t p ys) ≡ whole
       came g =
           ap onward
-          (ap (λ (x : Outcome). requested_entry x d t p ys) (sym g) ∙ h
+          (ap (λ (x : Result Unit Refusal). requested_entry x d t p ys) (sym g) ∙ h
           ∙ ap (λ (j : ℕ). request_entry desk tree path (part sheet (entry_start (id - first)) j) id (get_or draws (id - first) 0)) m)
           ∙ request-next l e
 
       -- it was done: on to the next id
-      pub entry_done : a ≡ outcome.Done → SoFar first end draws whole (id + 1) d t p back
+      pub entry_done : a ≡ Ok tt → SoFar first end draws whole (id + 1) d t p back
       entry_done g =
           let i : suc (id - first) ≡ id + 1 - first = omega (arith, here.from_first) in
           record {
@@ -96,11 +95,11 @@ module _ (first end : ℕ) (draws : List ℕ) where
           }
 
       -- it was refused: the pass is over
-      pub pass-refused : {q : Refusal} → a ≡ outcome.Refused q → passed (outcome.Refused q) d t p back ≡ whole
-      pass-refused {q} g = ap (λ (s : List ℕ). passed (outcome.Refused q) d t p s) back_is ∙ came g
+      pub pass-refused : {q : Refusal} → a ≡ Err q → passed (Err q) d t p back ≡ whole
+      pass-refused {q} g = ap (λ (s : List ℕ). passed (Err q) d t p s) back_is ∙ came g
 
     -- every id was asked for
-    pub all-passed : end ≤ id → length draws ≡ end - first → passed outcome.Done desk tree path sheet ≡ whole
+    pub all-passed : end ≤ id → length draws ≡ end - first → passed (Ok tt) desk tree path sheet ≡ whole
     unfolding pass_from
     all-passed l e =
         sym (ap (λ (xs : List ℕ). pass_from first (id - first) xs desk tree path sheet) (drop_of_length-le draws {i = id - first} (omega (arith, e, here.to_end)))) ∙ here.rest

@@ -1,9 +1,8 @@
 -- A sheet passed through the store: one request for each id of a range, rising, a write of the entry where it holds a record and a read into it where it
 -- holds none. The answer, and what the buffers then hold, on every input. Assumes nothing.
-use Rattle.std.specs.Prelude.{ℕ, suc, ◌+◌, cond, List, [], ◌∷◌}
+use Rattle.sizes.specs.declared.Refusal.{Refusal}
+use Rattle.std.specs.Prelude.{ℕ, suc, ◌+◌, cond, List, [], ◌∷◌, Err, Ok, Result}
 use Rattle.words.specs.Bytes.{splice, zeros}
-use Rattle.sizes.specs.declared.Outcome.{Outcome}
-use Rattle.sizes.specs.declared.Outcome.TheVariants as outcome
 use Rattle.sizes.specs.Sizes.{path_len}
 use Rattle.desk.specs.declared.Kind.{Kind}
 use Rattle.desk.specs.declared.Kind.TheVariants.{Read, Write}
@@ -19,26 +18,26 @@ abbrev pub kind_of : List ℕ → Kind
 kind_of entry = cond (is_record entry) Write Read
 
 -- a request's refusal, if it ended in one
-abbrev pub finished_outcome : Finished → Outcome
-finished_outcome finished.Record = outcome.Done
-finished_outcome finished.Never = outcome.Done
-finished_outcome finished.Done = outcome.Done
-finished_outcome (finished.Refused q) = outcome.Refused q
+abbrev pub finished_outcome : Result Finished Refusal → Result Unit Refusal
+finished_outcome (Ok finished.Record) = Ok tt
+finished_outcome (Ok finished.Never) = Ok tt
+finished_outcome (Ok finished.Done) = Ok tt
+finished_outcome (Err q) = Err q
 
-abbrev pub outcome_of : Answered → Outcome
-outcome_of (answered.Refused q) = outcome.Refused q
+abbrev pub outcome_of : Answered → Result Unit Refusal
+outcome_of (answered.Refused q) = Err q
 outcome_of (answered.Asked leaf f) = finished_outcome f
 
 -- ---- one request, its entry lent as the record
 
 pub record EntryResult : Type 0 where
-  pub answer : Outcome
+  pub answer : Result Unit Refusal
   pub desk : List ℕ
   pub tree : List ℕ
   pub path : List ℕ
   pub entry : List ℕ
 
-abbrev pub requested_entry : Outcome → List ℕ → List ℕ → List ℕ → List ℕ → EntryResult
+abbrev pub requested_entry : Result Unit Refusal → List ℕ → List ℕ → List ℕ → List ℕ → EntryResult
 requested_entry a d t p e = record { answer = a; desk = d; tree = t; path = p; entry = e }
 
 abbrev pub entry_by : RequestResult → EntryResult
@@ -50,22 +49,22 @@ request_entry desk tree path entry id draw = entry_by (request_of desk tree path
 -- ---- the entries from entry i on, one draw each; entry i is that of the id `first` + i
 
 pub record PassResult : Type 0 where
-  pub answer : Outcome
+  pub answer : Result Unit Refusal
   pub desk : List ℕ
   pub tree : List ℕ
   pub path : List ℕ
   pub sheet : List ℕ
 
-abbrev pub passed : Outcome → List ℕ → List ℕ → List ℕ → List ℕ → PassResult
+abbrev pub passed : Result Unit Refusal → List ℕ → List ℕ → List ℕ → List ℕ → PassResult
 passed a d t p s = record { answer = a; desk = d; tree = t; path = p; sheet = s }
 
 -- a refusal ends it
-abbrev pub going_on : PassResult → PassResult → Outcome → PassResult
-going_on here more outcome.Done = more
-going_on here more (outcome.Refused q) = here
+abbrev pub going_on : PassResult → PassResult → Result Unit Refusal → PassResult
+going_on here more (Ok tt) = more
+going_on here more (Err q) = here
 
 unfoldable pub pass_from : ℕ → ℕ → List ℕ → List ℕ → List ℕ → List ℕ → List ℕ → PassResult
-pass_from first i [] desk tree path sheet = passed outcome.Done desk tree path sheet
+pass_from first i [] desk tree path sheet = passed (Ok tt) desk tree path sheet
 pass_from first i (x ∷ xs) desk tree path sheet =
     let r = request_entry desk tree path (entry_at sheet i) (first + i) x in
     let laid = splice sheet (entry_start i) r.entry in
@@ -77,12 +76,12 @@ pass_from first i (x ∷ xs) desk tree path sheet =
 -- ---- a whole sheet; the path begins as zeros
 
 pub record SheetResult : Type 0 where
-  pub answer : Outcome
+  pub answer : Result Unit Refusal
   pub desk : List ℕ
   pub tree : List ℕ
   pub sheet : List ℕ
 
-abbrev pub sheet_passed : Outcome → List ℕ → List ℕ → List ℕ → SheetResult
+abbrev pub sheet_passed : Result Unit Refusal → List ℕ → List ℕ → List ℕ → SheetResult
 sheet_passed a d t s = record { answer = a; desk = d; tree = t; sheet = s }
 
 abbrev pub without_path : PassResult → SheetResult

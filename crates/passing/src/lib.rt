@@ -1,8 +1,7 @@
 // A sheet passed through the store, entry by entry. Assumes nothing.
 #![tactic(auto)]
 
-ghost use Rattle.std.specs.Prelude.{◌≡◌, ◌-◌, ◌*◌, ◌≤◌, length};
-ghost use Rattle.sizes.specs.declared.Outcome.TheVariants as outcome;
+ghost use Rattle.std.specs.Prelude.{◌≡◌, ◌-◌, ◌*◌, ◌≤◌, length, Ok};
 ghost use Rattle.sizes.specs.Sizes.{record_len};
 ghost use Rattle.book.specs.MatrixRow.{row_checked};
 ghost use Rattle.passing.specs.Passing.{kind_of, finished_outcome, requested_entry, request_entry, passed, pass_from, sheet_passed, pass_of};
@@ -95,7 +94,7 @@ pub fn pass_all(
     end: u16,
     draws: &[u16],
 ) -> Outcome
-    requires { (row_checked desk.old tree.old first end draws.now ≡ outcome.Done) × (length sheet.old ≡ (end - first) * record_len) }
+    requires { (row_checked desk.old tree.old first end draws.now ≡ Ok tt) × (length sheet.old ≡ (end - first) * record_len) }
     ensures { sheet_passed result desk.new tree.new sheet.new ≡ pass_of desk.old tree.old first draws.now sheet.old }
 {
     let n = desk::sizes_of(desk).path_len();

@@ -1,4 +1,5 @@
 -- TAP in and out, on every input: what is refused before any ask changes nothing, and a refusal hands out no text. Assumes nothing.
+use Rattle.std.specs.Prelude.{Err, Ok, Result}
 use Prim.Native.Nat.{ℕ, ◌-◌}
 use mathlib.Core.Path.{◌≡◌, refl, sym, ap, subst, ◌∙◌}
 use mathlib.Core.Logic.{◌≢◌}
@@ -8,8 +9,6 @@ use lib.ListN.{length}
 use borrow.Author.Tests.{eq-eqb}
 use Rattle.words.specs.Bytes.{splice}
 use Rattle.sizes.specs.declared.Refusal.{Refusal}
-use Rattle.sizes.specs.declared.Outcome.{Outcome}
-use Rattle.sizes.specs.declared.Outcome.TheVariants as outcome
 use Rattle.sizes.specs.Refusals.{NoneOf}
 use Rattle.sizes.proofs.Rows.{none-applies}
 use Rattle.book.specs.MatrixRow.{row_rows, row_checked}
@@ -31,42 +30,42 @@ module _ (desk tree : List ℕ) (chapter year first end : ℕ) (draws text : Lis
   sheet = (take_of chapter year (end - first) text).sheet
 
   -- once the checks are passed the text decides
-  pub text-decides : row_checked desk tree first end draws ≡ outcome.Done
+  pub text-decides : row_checked desk tree first end draws ≡ Ok tt
       → read_of desk tree chapter year first end draws text ≡ read_text (take_of chapter year (end - first) text).answer desk tree first draws sheet
-  text-decides e = ap (λ (o : Outcome). read_by o desk tree chapter year first end draws text) e
+  text-decides e = ap (λ (o : Result Unit Refusal). read_by o desk tree chapter year first end draws text) e
 
-  bad_text : (t : Trouble) (line : ℕ) → row_checked desk tree first end draws ≡ outcome.Done → (take_of chapter year (end - first) text).answer ≡ took.Bad t line
+  bad_text : (t : Trouble) (line : ℕ) → row_checked desk tree first end draws ≡ Ok tt → (take_of chapter year (end - first) text).answer ≡ took.Bad t line
       → read_of desk tree chapter year first end draws text ≡ read_text (took.Bad t line) desk tree first draws sheet
   bad_text t line e h = text-decides e ∙ ap (λ (a : Text). read_text a desk tree first draws sheet) h
 
 -- ---- a text that was read was refused by nothing
 
-pub taken-done : (o : Outcome) → taken_by o ≡ taken.Done → o ≡ outcome.Done
-taken-done outcome.Done h = refl
-taken-done (outcome.Refused q) h = let z : ◌≡◌ {A = ℕ} 0 1 = cc in absurd (omega arith)
+pub taken-done : (o : Result Unit Refusal) → taken_by o ≡ taken.Done → o ≡ Ok tt
+taken-done (Ok tt) h = refl
+taken-done (Err q) h = let z : ◌≡◌ {A = ℕ} 0 1 = cc in absurd (omega arith)
 
-pub taken-same : (o : Outcome) (q : Refusal) → taken_by o ≡ taken.Refused q → o ≡ outcome.Refused q
-taken-same outcome.Done q h = let z : ◌≡◌ {A = ℕ} 0 1 = cc in absurd (omega arith)
-taken-same (outcome.Refused p) q h = let k : p ≡ q = cc in ap outcome.Refused k
+pub taken-same : (o : Result Unit Refusal) (q : Refusal) → taken_by o ≡ taken.Refused q → o ≡ Err q
+taken-same (Ok tt) q h = let z : ◌≡◌ {A = ℕ} 0 1 = cc in absurd (omega arith)
+taken-same (Err p) q h = let k : p ≡ q = cc in ap Err k
 
-not-bad : (o : Outcome) (t : Trouble) (line : ℕ) → taken_by o ≢ taken.Bad t line
-not-bad outcome.Done t line h = let z : ◌≡◌ {A = ℕ} 0 1 = cc in omega arith
-not-bad (outcome.Refused q) t line h = let z : ◌≡◌ {A = ℕ} 0 1 = cc in omega arith
+not-bad : (o : Result Unit Refusal) (t : Trouble) (line : ℕ) → taken_by o ≢ taken.Bad t line
+not-bad (Ok tt) t line h = let z : ◌≡◌ {A = ℕ} 0 1 = cc in omega arith
+not-bad (Err q) t line h = let z : ◌≡◌ {A = ℕ} 0 1 = cc in omega arith
 
 module _ (desk tree : List ℕ) (chapter year first end : ℕ) (draws text : List ℕ) where
   pub record WasRead : Type 0 where
-    pub checked : row_checked desk tree first end draws ≡ outcome.Done
+    pub checked : row_checked desk tree first end draws ≡ Ok tt
     pub good : (take_of chapter year (end - first) text).answer ≡ took.Good
-    pub passes : (pass_of desk tree first draws (sheet desk tree chapter year first end draws text)).answer ≡ outcome.Done
+    pub passes : (pass_of desk tree first draws (sheet desk tree chapter year first end draws text)).answer ≡ Ok tt
 
-  by-text : (a : Text) → (take_of chapter year (end - first) text).answer ≡ a → row_checked desk tree first end draws ≡ outcome.Done
+  by-text : (a : Text) → (take_of chapter year (end - first) text).answer ≡ a → row_checked desk tree first end draws ≡ Ok tt
       → (read_text a desk tree first draws (sheet desk tree chapter year first end draws text)).answer ≡ taken.Done → WasRead
   by-text took.Good k e h = record { checked = e; good = k; passes = taken-done _ h }
   by-text (took.Bad t line) k e h = let z : ◌≡◌ {A = ℕ} 0 1 = cc in absurd (omega arith)
 
-  by-checks : (o : Outcome) → row_checked desk tree first end draws ≡ o → (read_by o desk tree chapter year first end draws text).answer ≡ taken.Done → WasRead
-  by-checks (outcome.Refused q) e h = let z : ◌≡◌ {A = ℕ} 0 1 = cc in absurd (omega arith)
-  by-checks outcome.Done e h = by-text (take_of chapter year (end - first) text).answer refl e h
+  by-checks : (o : Result Unit Refusal) → row_checked desk tree first end draws ≡ o → (read_by o desk tree chapter year first end draws text).answer ≡ taken.Done → WasRead
+  by-checks (Err q) e h = let z : ◌≡◌ {A = ℕ} 0 1 = cc in absurd (omega arith)
+  by-checks (Ok tt) e h = by-text (take_of chapter year (end - first) text).answer refl e h
 
   pub was_read : (read_of desk tree chapter year first end draws text).answer ≡ taken.Done → WasRead
   was_read h = by-checks (row_checked desk tree first end draws) refl h
@@ -76,9 +75,9 @@ module _ (desk tree : List ℕ) (chapter year first end : ℕ) (draws text : Lis
       → (read_of desk tree chapter year first end draws text).answer ≢ taken.Bad t line
   good-answer e t line h = go (row_checked desk tree first end draws) h
     where
-      go : (o : Outcome) → (read_by o desk tree chapter year first end draws text).answer ≡ taken.Bad t line → ⊥
-      go (outcome.Refused q) k = let z : ◌≡◌ {A = ℕ} 0 1 = cc in omega arith
-      go outcome.Done k =
+      go : (o : Result Unit Refusal) → (read_by o desk tree chapter year first end draws text).answer ≡ taken.Bad t line → ⊥
+      go (Err q) k = let z : ◌≡◌ {A = ℕ} 0 1 = cc in omega arith
+      go (Ok tt) k =
           not-bad (pass_of desk tree first draws (sheet desk tree chapter year first end draws text)).answer t line
           (sym (ap (λ (a : Text). (read_text a desk tree first draws (sheet desk tree chapter year first end draws text)).answer) e) ∙ k)
 
@@ -87,60 +86,60 @@ module _ (desk tree : List ℕ) (chapter year first end : ℕ) (draws text : Lis
 not-printed : (q : Refusal) (len : ℕ) → printed.Length len ≡ printed.Refused q → ⊥
 not-printed q len h = let z : ◌≡◌ {A = ℕ} 0 1 = cc in omega arith
 
-pub row-checked : (desk tree : List ℕ) (first end : ℕ) (draws out : List ℕ) → write_checked desk tree first end draws out ≡ outcome.Done
-    → row_checked desk tree first end draws ≡ outcome.Done
+pub row-checked : (desk tree : List ℕ) (first end : ℕ) (draws out : List ℕ) → write_checked desk tree first end draws out ≡ Ok tt
+    → row_checked desk tree first end draws ≡ Ok tt
 unfolding write_checked row_checked
 row-checked desk tree first end draws out h =
     let n : NoneOf (write_rows desk tree first end draws out) = none-applies (write_rows desk tree first end draws out) h in
     rw (n.0, n.1.0, n.1.1.0) refl
 
-pub write_checked_lem : (desk tree : List ℕ) (first end : ℕ) (draws out : List ℕ) → row_checked desk tree first end draws ≡ outcome.Done
-    → length out ≡ room_of (end - first) → write_checked desk tree first end draws out ≡ outcome.Done
+pub write_checked_lem : (desk tree : List ℕ) (first end : ℕ) (draws out : List ℕ) → row_checked desk tree first end draws ≡ Ok tt
+    → length out ≡ room_of (end - first) → write_checked desk tree first end draws out ≡ Ok tt
 unfolding write_checked row_checked
 write_checked_lem desk tree first end draws out h l =
     let n : NoneOf (row_rows desk tree first end draws) = none-applies (row_rows desk tree first end draws) h in
     rw (n.0, n.1.0, n.1.1.0, eq-eqb (length out) (room_of (end - first)) l) refl
 
 module _ (chapter n : ℕ) (r : SheetResult) (out : List ℕ) where
-  kept_by : (q : Refusal) (o : Outcome) → (printed_by o chapter n r out).answer ≡ printed.Refused q → (printed_by o chapter n r out).out ≡ out
-  kept_by q (outcome.Refused p) h = refl
-  kept_by q outcome.Done h = absurd (not-printed q _ h)
+  kept_by : (q : Refusal) (o : Result Unit Refusal) → (printed_by o chapter n r out).answer ≡ printed.Refused q → (printed_by o chapter n r out).out ≡ out
+  kept_by q (Err p) h = refl
+  kept_by q (Ok tt) h = absurd (not-printed q _ h)
 
-  pub printed-same : (q : Refusal) (o : Outcome) → (printed_by o chapter n r out).answer ≡ printed.Refused q → o ≡ outcome.Refused q
-  printed-same q outcome.Done h = absurd (not-printed q _ h)
-  printed-same q (outcome.Refused p) h = let k : p ≡ q = cc in ap outcome.Refused k
+  pub printed-same : (q : Refusal) (o : Result Unit Refusal) → (printed_by o chapter n r out).answer ≡ printed.Refused q → o ≡ Err q
+  printed-same q (Ok tt) h = absurd (not-printed q _ h)
+  printed-same q (Err p) h = let k : p ≡ q = cc in ap Err k
 
   -- what a text that is written is
   pub record Says (len : ℕ) (now : List ℕ) : Type 0 where
-    pub passes : r.answer ≡ outcome.Done
+    pub passes : r.answer ≡ Ok tt
     pub length-is : len ≡ length (text_of chapter n r.sheet)
     pub out_is : now ≡ splice out 0 (text_of chapter n r.sheet)
 
-  says-by : (len : ℕ) (o : Outcome) → r.answer ≡ o → (printed_by o chapter n r out).answer ≡ printed.Length len → Says len (printed_by o chapter n r out).out
-  says-by len (outcome.Refused p) e h = absurd (not-printed p len (sym h))
-  says-by len outcome.Done e h = record { passes = e; length-is = cc; out_is = refl }
+  says-by : (len : ℕ) (o : Result Unit Refusal) → r.answer ≡ o → (printed_by o chapter n r out).answer ≡ printed.Length len → Says len (printed_by o chapter n r out).out
+  says-by len (Err p) e h = absurd (not-printed p len (sym h))
+  says-by len (Ok tt) e h = record { passes = e; length-is = cc; out_is = refl }
 
 module _ (desk tree : List ℕ) (chapter first end : ℕ) (draws out : List ℕ) where
   abbrev pub written : SheetResult
   written = pass_of desk tree first draws (empty_sheet (end - first))
 
-  kept_out : (q : Refusal) (o : Outcome) → (write_by o desk tree chapter first end draws out).answer ≡ printed.Refused q
+  kept_out : (q : Refusal) (o : Result Unit Refusal) → (write_by o desk tree chapter first end draws out).answer ≡ printed.Refused q
       → (write_by o desk tree chapter first end draws out).out ≡ out
-  kept_out q (outcome.Refused p) h = refl
-  kept_out q outcome.Done h = kept_by chapter (end - first) written out q written.answer h
+  kept_out q (Err p) h = refl
+  kept_out q (Ok tt) h = kept_by chapter (end - first) written out q written.answer h
 
   pub record WasWritten (len : ℕ) : Type 0 where
-    pub checked : write_checked desk tree first end draws out ≡ outcome.Done
+    pub checked : write_checked desk tree first end draws out ≡ Ok tt
     pub says : Says chapter (end - first) written out len (write_of desk tree chapter first end draws out).out
 
   pub was-written : (len : ℕ) → (write_of desk tree chapter first end draws out).answer ≡ printed.Length len → WasWritten len
   was-written len h = go (write_checked desk tree first end draws out) refl
     where
-      go : (o : Outcome) → write_checked desk tree first end draws out ≡ o → WasWritten len
-      go (outcome.Refused q) e =
-          absurd (not-printed q len (sym (sym (ap (λ (x : Outcome). (write_by x desk tree chapter first end draws out).answer) e) ∙ h)))
-      go outcome.Done e =
-          let w = ap (λ (x : Outcome). write_by x desk tree chapter first end draws out) e in
+      go : (o : Result Unit Refusal) → write_checked desk tree first end draws out ≡ o → WasWritten len
+      go (Err q) e =
+          absurd (not-printed q len (sym (sym (ap (λ (x : Result Unit Refusal). (write_by x desk tree chapter first end draws out).answer) e) ∙ h)))
+      go (Ok tt) e =
+          let w = ap (λ (x : Result Unit Refusal). write_by x desk tree chapter first end draws out) e in
           record {
             checked = e;
             says =
@@ -153,11 +152,11 @@ any_tap =
     record {
       read_refuses =
           λ desk tree chapter year first end draws text q e.
-          let w = ap (λ (o : Outcome). read_by o desk tree chapter year first end draws text) e in
+          let w = ap (λ (o : Result Unit Refusal). read_by o desk tree chapter year first end draws text) e in
           (ap (λ (r : ReadResult). r.answer) w, ap (λ (r : ReadResult). r.desk) w, ap (λ (r : ReadResult). r.tree) w);
       write_refuses =
           λ desk tree chapter first end draws out q e.
-          let w = ap (λ (o : Outcome). write_by o desk tree chapter first end draws out) e in
+          let w = ap (λ (o : Result Unit Refusal). write_by o desk tree chapter first end draws out) e in
           (ap (λ (r : WriteResult). r.answer) w, ap (λ (r : WriteResult). r.desk) w, ap (λ (r : WriteResult). r.tree) w);
       bad_text =
           λ desk tree chapter year first end draws text t line e h.

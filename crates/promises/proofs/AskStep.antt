@@ -1,4 +1,6 @@
 -- An ask keeps what stands: a refusal leaves the state as it was, and an accepted one opens the request. Assumes nothing.
+use Rattle.std.specs.Prelude.{Ok, Result, Err}
+use Rattle.sizes.specs.declared.Refusal.{Refusal}
 use Prim.Native.Nat.{ℕ, ◌<◌, ◌≤◌}
 use mathlib.Core.Path.{◌≡◌, refl, sym, ap, subst, ◌∙◌}
 use mathlib.Core.Bool.{true, cond}
@@ -7,16 +9,12 @@ use native.Mathlib.Omega.{arith}
 use lib.Dec.{eqb}
 use borrow.Author.Tests.{le-leb, lt-leb}
 use Rattle.sizes.specs.declared.Sizes.{Sizes}
-use Rattle.sizes.specs.declared.Outcome.{Outcome}
-use Rattle.sizes.specs.declared.Outcome.TheVariants.{Done}
 use Rattle.sizes.specs.Sizes.{leaves, record_len}
 use Rattle.desk.specs.Layout.{ids_of}
 use Rattle.desk.specs.Readers.{sizes_of, status_of, id_asked, new_leaf, position_of}
 use Rattle.desk.specs.Status.{ready_status, open_status}
 use Rattle.desk.proofs.Changed.{same-ids, same_room, same-sizes}
 use Rattle.items.specs.Items.{Means}
-use Rattle.asks.specs.declared.Asked.{Asked}
-use Rattle.asks.specs.declared.Asked.TheVariants as asked
 use Rattle.asks.specs.Ask.{record_fits, ask_checked, asked_of, opened}
 use Rattle.asks.proofs.Passed.{AskPassed}
 use Rattle.asks.proofs.Opened.{opened-changed, opened-good, opened-kind, opened-id, opened-leaf, opened-record}
@@ -35,7 +33,7 @@ module _ (m : Means) (b : Start) (st : State) (v : Stands m b st) where
   -- ---- at a ready desk an ask in range is accepted
 
   pub ask-done : status_of st.desk ≡ ready_status → (r : Request) → 1 ≤ r.id → r.id ≤ b.ids → r.leaf < leaves b.sizes
-      → record_fits record_len r.kind r.content ≡ true → ask_checked st.desk r.kind r.id r.leaf r.content ≡ Done
+      → record_fits record_len r.kind r.content ≡ true → ask_checked st.desk r.kind r.id r.leaf r.content ≡ Ok tt
   unfolding ask_checked
   ask-done s r low high leaf fits =
       let h : r.id ≤ ids_of st.desk = rw v.ids high in
@@ -43,13 +41,13 @@ module _ (m : Means) (b : Start) (st : State) (v : Stands m b st) where
       rw (v.good, s, le-leb 1 r.id low, le-leb r.id (ids_of st.desk) h, lt-leb (leaves (sizes_of st.desk)) r.leaf l, fits)
 
   pub ask-takes : status_of st.desk ≡ ready_status → (r : Request) → 1 ≤ r.id → r.id ≤ b.ids → r.leaf < leaves b.sizes
-      → record_fits record_len r.kind r.content ≡ true → (ask_for (ours m) st r).answer ≡ asked.Leaf (st.drawn r.id)
+      → record_fits record_len r.kind r.content ≡ true → (ask_for (ours m) st r).answer ≡ Ok (st.drawn r.id)
   ask-takes s r low high leaf fits =
-      ap (λ (o : Outcome). asked_of o (position_of st.desk r.id)) (ask-done s r low high leaf fits) ∙ ap asked.Leaf (v.drawn s r.id low high)
+      ap (λ (o : Result Unit Refusal). asked_of o (position_of st.desk r.id)) (ask-done s r low high leaf fits) ∙ ap Ok (v.drawn s r.id low high)
 
   -- ---- an accepted ask answers the leaf last drawn
 
-  module _ (r : Request) (p : ℕ) (h : (ask_for (ours m) st r).answer ≡ asked.Leaf p) where
+  module _ (r : Request) (p : ℕ) (h : (ask_for (ours m) st r).answer ≡ Ok p) where
     abbrev new : List ℕ
     new = opened st.desk r.kind r.id r.leaf r.content
 
@@ -74,7 +72,7 @@ module _ (m : Means) (b : Start) (st : State) (v : Stands m b st) where
         ap (λ (x : ℕ). cond (eqb u x) (new_leaf new) (position_of new u)) i
         ∙ ap (λ (x : ℕ). cond (eqb u r.id) x (position_of new u)) f ∙ ap (λ (x : ℕ). cond (eqb u r.id) r.leaf x) q
 
-    pub opened-stands : Stands m b (after_ask st r (asked.Leaf p) new)
+    pub opened-stands : Stands m b (after_ask st r (Ok p) new)
     opened-stands =
         let c = opened-changed st.desk r.kind r.id r.leaf r.content passed in
         let i = opened-id st.desk r.kind r.id r.leaf r.content passed in
@@ -109,8 +107,8 @@ module _ (m : Means) (b : Start) (st : State) (v : Stands m b st) where
   pub ask-stands : (r : Request) → Stands m b (after_ask st r (ask_for (ours m) st r).answer (ask_for (ours m) st r).desk)
   ask-stands r = go (ask_for (ours m) st r).answer refl
     where
-      go : (a : Asked) → (ask_for (ours m) st r).answer ≡ a → Stands m b (after_ask st r a (ask_for (ours m) st r).desk)
-      go (asked.Leaf p) h =
-          subst (λ (d : List ℕ). Stands m b (after_ask st r (asked.Leaf p) d)) (sym (asked_leaf st.desk r.kind r.id r.leaf r.content p h).after)
+      go : (a : Result ℕ Refusal) → (ask_for (ours m) st r).answer ≡ a → Stands m b (after_ask st r a (ask_for (ours m) st r).desk)
+      go (Ok p) h =
+          subst (λ (d : List ℕ). Stands m b (after_ask st r (Ok p) d)) (sym (asked_leaf st.desk r.kind r.id r.leaf r.content p h).after)
           (opened-stands r p h)
-      go (asked.Refused q) h = same-desk (ask_for (ours m) st r).desk ((demand-one m).ask_refuses st.desk r.kind r.id r.leaf r.content q h)
+      go (Err q) h = same-desk (ask_for (ours m) st r).desk ((demand-one m).ask_refuses st.desk r.kind r.id r.leaf r.content q h)

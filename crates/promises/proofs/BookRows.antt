@@ -1,5 +1,6 @@
 -- Rows of the verdict book, on every input: the counts add up to the range's length, a refusal before any ask changes nothing, and no read is answered
 -- by Done. Assumes nothing.
+use Rattle.std.specs.Prelude.{Err, Ok, Result}
 use Prim.Native.Nat.{ℕ, suc, ◌+◌, ◌-◌}
 use mathlib.Core.Path.{◌≡◌, refl, sym, ap, ◌∙◌}
 use mathlib.Core.Logic.{◌≢◌}
@@ -12,16 +13,12 @@ use borrow.Author.Tests.{eqb-true, eq-eqb}
 use Rattle.words.specs.Bytes.{zeros}
 use Rattle.sizes.specs.declared.Sizes.{Sizes}
 use Rattle.sizes.specs.declared.Refusal.{Refusal}
-use Rattle.sizes.specs.declared.Outcome.{Outcome}
-use Rattle.sizes.specs.declared.Outcome.TheVariants as outcome
 use Rattle.sizes.specs.Sizes.{record_len, path_len}
 use Rattle.desk.specs.declared.Kind.{Kind}
 use Rattle.desk.specs.declared.Kind.TheVariants.{Read}
 use Rattle.desk.specs.Readers.{sizes_of, kind_asked}
 use Rattle.items.specs.Real.{real}
 use Rattle.tree.specs.Tree.{fetch_of}
-use Rattle.asks.specs.declared.Asked.{Asked}
-use Rattle.asks.specs.declared.Asked.TheVariants as asked
 use Rattle.asks.specs.Ask.{ask_of}
 use Rattle.asks.proofs.Opened.{opened-kind}
 use Rattle.store.specs.declared.Finished.TheVariants as finished
@@ -54,14 +51,14 @@ run_of desk tree chapter first end draws =
 
 pub was-done : (desk tree : List ℕ) (chapter first end : ℕ) (draws : List ℕ) (c : Counts) (complete : Bool)
     → (row_of desk tree chapter first end draws).answer ≡ Counted c complete
-    → (row_checked desk tree first end draws ≡ outcome.Done) × ((run_of desk tree chapter first end draws).answer ≡ Counted c complete)
+    → (row_checked desk tree first end draws ≡ Ok tt) × ((run_of desk tree chapter first end draws).answer ≡ Counted c complete)
 was-done desk tree chapter first end draws c complete h = go (row_checked desk tree first end draws) refl
   where
-    go : (o : Outcome) → row_checked desk tree first end draws ≡ o
-        → (row_checked desk tree first end draws ≡ outcome.Done) × ((run_of desk tree chapter first end draws).answer ≡ Counted c complete)
-    go outcome.Done e = (e, sym (ap (λ (x : Outcome). (row_by x desk tree chapter first end draws).answer) e) ∙ h)
-    go (outcome.Refused q) e =
-        absurd (not-counted q c complete (sym (ap (λ (x : Outcome). (row_by x desk tree chapter first end draws).answer) e) ∙ h))
+    go : (o : Result Unit Refusal) → row_checked desk tree first end draws ≡ o
+        → (row_checked desk tree first end draws ≡ Ok tt) × ((run_of desk tree chapter first end draws).answer ≡ Counted c complete)
+    go (Ok tt) e = (e, sym (ap (λ (x : Result Unit Refusal). (row_by x desk tree chapter first end draws).answer) e) ∙ h)
+    go (Err q) e =
+        absurd (not-counted q c complete (sym (ap (λ (x : Result Unit Refusal). (row_by x desk tree chapter first end draws).answer) e) ∙ h))
 
 -- ---- the run: each draw adds one to one of the counts, and complete is the test at its end
 
@@ -92,34 +89,34 @@ run-adds chapter n id (x ∷ xs) c desk tree path buffer =
 
 -- ---- a read that was asked for is no write, so its finish is not Done
 
-not_done : (o : Outcome) (marked : Bool) → finished_or o (answer_for Read marked) ≢ finished.Done
-not_done (outcome.Refused q) marked h = let z : ◌≡◌ {A = ℕ} 0 1 = cc in omega arith
-not_done outcome.Done true h = let z : ◌≡◌ {A = ℕ} 0 1 = cc in omega arith
-not_done outcome.Done false h = let z : ◌≡◌ {A = ℕ} 0 1 = cc in omega arith
+not_done : (o : Result Unit Refusal) (marked : Bool) → finished_or o (answer_for Read marked) ≢ (Ok finished.Done)
+not_done (Err q) marked h = let z : ◌≡◌ {A = ℕ} 0 1 = cc in omega arith
+not_done (Ok tt) true h = let z : ◌≡◌ {A = ℕ} 0 1 = cc in omega arith
+not_done (Ok tt) false h = let z : ◌≡◌ {A = ℕ} 0 1 = cc in omega arith
 
-finished-not : (o : Outcome) (s : Sizes) (x : ℕ) (desk tree path buffer : List ℕ) (p : ℕ) → kind_asked desk ≡ Read
-    → (finished_by o s x desk tree path buffer).answer ≢ answered.Asked p finished.Done
-finished-not (outcome.Refused q) s x desk tree path buffer p k h = let z : ◌≡◌ {A = ℕ} 0 1 = cc in omega arith
-finished-not outcome.Done s x desk tree path buffer p k h =
-    let e : (finish_of real desk path buffer).answer ≡ finished.Done = cc in
+finished-not : (o : Result Unit Refusal) (s : Sizes) (x : ℕ) (desk tree path buffer : List ℕ) (p : ℕ) → kind_asked desk ≡ Read
+    → (finished_by o s x desk tree path buffer).answer ≢ answered.Asked p (Ok finished.Done)
+finished-not (Err q) s x desk tree path buffer p k h = let z : ◌≡◌ {A = ℕ} 0 1 = cc in omega arith
+finished-not (Ok tt) s x desk tree path buffer p k h =
+    let e : (finish_of real desk path buffer).answer ≡ Ok finished.Done = cc in
     let c = finish_checked real desk path buffer in
     not_done c (was_marked real desk path) (ap (λ (z : Kind). finished_or c (answer_for z (was_marked real desk path))) (sym k) ∙ e)
 
-read-not : (desk tree path buffer : List ℕ) (id draw p : ℕ) → (request_of desk tree path buffer Read id draw).answer ≢ answered.Asked p finished.Done
+read-not : (desk tree path buffer : List ℕ) (id draw p : ℕ) → (request_of desk tree path buffer Read id draw).answer ≢ answered.Asked p (Ok finished.Done)
 read-not desk tree path buffer id draw p e = go (ask_of desk Read id draw buffer).answer refl
   where
     d : List ℕ
     d = (ask_of desk Read id draw buffer).desk
 
-    go : (a : Asked) → (ask_of desk Read id draw buffer).answer ≡ a → ⊥
-    go (asked.Refused q) h =
-        let w : answered.Refused q ≡ answered.Asked p finished.Done = sym (ap (λ (a : Asked). (asked_for a d tree path buffer).answer) h) ∙ e in
+    go : (a : Result ℕ Refusal) → (ask_of desk Read id draw buffer).answer ≡ a → ⊥
+    go (Err q) h =
+        let w : answered.Refused q ≡ answered.Asked p (Ok finished.Done) = sym (ap (λ (a : Result ℕ Refusal). (asked_for a d tree path buffer).answer) h) ∙ e in
         let z : ◌≡◌ {A = ℕ} 0 1 = cc in
         omega arith
-    go (asked.Leaf x) h =
+    go (Ok x) h =
         let l = asked_leaf desk Read id draw buffer x h in
         finished-not (fetch_of (sizes_of d) x tree path).answer (sizes_of d) x d tree (fetch_of (sizes_of d) x tree path).path buffer p
-        (ap kind_asked l.after ∙ opened-kind desk Read id draw buffer l.passed) (sym (ap (λ (a : Asked). (asked_for a d tree path buffer).answer) h) ∙ e)
+        (ap kind_asked l.after ∙ opened-kind desk Read id draw buffer l.passed) (sym (ap (λ (a : Result ℕ Refusal). (asked_for a d tree path buffer).answer) h) ∙ e)
 
 -- ---- all of it
 
@@ -136,9 +133,9 @@ any_row =
           );
       refuses =
           λ desk tree chapter first end draws q e. (
-            ap (λ (x : Outcome). (row_by x desk tree chapter first end draws).answer) e,
-            ap (λ (x : Outcome). (row_by x desk tree chapter first end draws).desk) e,
-            ap (λ (x : Outcome). (row_by x desk tree chapter first end draws).tree) e,
+            ap (λ (x : Result Unit Refusal). (row_by x desk tree chapter first end draws).answer) e,
+            ap (λ (x : Result Unit Refusal). (row_by x desk tree chapter first end draws).desk) e,
+            ap (λ (x : Result Unit Refusal). (row_by x desk tree chapter first end draws).tree) e,
           );
       never_done = read-not;
     }

@@ -1,4 +1,5 @@
 -- A text that is written from one store and read into another: each id holds what comes of its line. Assumes nothing.
+use Rattle.std.specs.Prelude.{Ok}
 use Prim.Native.Nat.{ℕ, ◌+◌, ◌-◌, ◌<◌}
 use mathlib.Core.Path.{◌≡◌, refl, sym, ap, ap₂, subst, ◌∙◌}
 use mathlib.Core.Logic.{◌≢◌, ◌⊎◌, inl, inr, ⊎_elim}
@@ -10,7 +11,6 @@ use lib.ListN.{length, take}
 use Rattle.words.specs.Bytes.{zeros}
 use Rattle.words.proofs.Tests.{by_cases}
 use Rattle.words.proofs.Splice.{part-splice}
-use Rattle.sizes.specs.declared.Outcome.TheVariants.{Done}
 use Rattle.sizes.specs.Sizes.{record_len, tree_len}
 use Rattle.slots.specs.Slots.{Bytes}
 use Rattle.items.specs.Real.{real}
@@ -207,7 +207,7 @@ fresh-comes chapter year held after c =
     }
 
 module _ (b : Start) (ts : TreeState) (chapter first end : ℕ) (o : Out b ts chapter first end) (b' : Start) (byte : b'.room < 256)
-    (lent : List ℕ) (formats : (format_for b' lent).answer ≡ Done) (tree : List ℕ) (size : length tree ≡ tree_len b'.sizes) where
+    (lent : List ℕ) (formats : (format_for b' lent).answer ≡ Ok tt) (tree : List ℕ) (size : length tree ≡ tree_len b'.sizes) where
   abbrev begun : TreeState
   begun = record { state = begin b' lent; tree = tree }
 

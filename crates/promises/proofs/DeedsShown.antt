@@ -1,4 +1,6 @@
 -- Demand 3 with rows and texts among the requests: a run of deeds shows a beginning of what a run of requests shows. Assumes nothing.
+use Rattle.std.specs.Prelude.{Err, Ok, Result}
+use Rattle.sizes.specs.declared.Refusal.{Refusal}
 use Prim.Native.Nat.{ℕ, ◌-◌, ◌<◌}
 use mathlib.Core.Path.{◌≡◌, refl, sym, ap, ◌∙◌}
 use mathlib.Core.List.{List, [], ◌∷◌}
@@ -7,8 +9,6 @@ use lib.ListN.{length, get_or, take, drop}
 use Rattle.items.specs.Real.{real}
 use Rattle.items.proofs.Sound.{real-sound}
 use Rattle.draws.specs.Draws.{rearrange, rearranged}
-use Rattle.asks.specs.declared.Asked.{Asked}
-use Rattle.asks.specs.declared.Asked.TheVariants as asked
 use Rattle.asks.specs.Ask.{ask_of}
 use Rattle.store.specs.declared.Finished.{Finished}
 use Rattle.store.specs.declared.Finished.TheVariants as finished
@@ -24,12 +24,12 @@ use Rattle.promises.proofs.TapsShown.{tap-in-shown, tap-out-shown, read_asked, w
 
 -- ---- a run of deeds
 
-shown-request : (a : Asked) (f : Finished) (part whole : List ℕ) → Begins part whole → Begins (shown_if a (λ p. p ∷ go_on f part)) (shown_if a (λ p. p ∷ go_on f whole))
-shown-request (asked.Refused q) f part whole b = ([], refl)
-shown-request (asked.Leaf p) finished.Record part whole b = (b.0, ap (λ (l : List ℕ). p ∷ l) b.1)
-shown-request (asked.Leaf p) finished.Never part whole b = (b.0, ap (λ (l : List ℕ). p ∷ l) b.1)
-shown-request (asked.Leaf p) finished.Done part whole b = (b.0, ap (λ (l : List ℕ). p ∷ l) b.1)
-shown-request (asked.Leaf p) (finished.Refused q) part whole b = ([], refl)
+shown-request : (a : Result ℕ Refusal) (f : Result Finished Refusal) (part whole : List ℕ) → Begins part whole → Begins (shown_if a (λ p. p ∷ go_on f part)) (shown_if a (λ p. p ∷ go_on f whole))
+shown-request (Err q) f part whole b = ([], refl)
+shown-request (Ok p) (Ok finished.Record) part whole b = (b.0, ap (λ (l : List ℕ). p ∷ l) b.1)
+shown-request (Ok p) (Ok finished.Never) part whole b = (b.0, ap (λ (l : List ℕ). p ∷ l) b.1)
+shown-request (Ok p) (Ok finished.Done) part whole b = (b.0, ap (λ (l : List ℕ). p ∷ l) b.1)
+shown-request (Ok p) (Err q) part whole b = ([], refl)
 
 deeds-shown : (desk : List ℕ) (ds : List Deed) (xs : List ℕ) → Shown (deeds_show desk ds xs) desk (all_ids ds) xs
 unfolding deeds_show shows

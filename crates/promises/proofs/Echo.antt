@@ -1,5 +1,7 @@
 -- A store that works at the first finish and then only echoes is shut out by demand 2: a record is written, and read back over an honest server. Assumes
 -- nothing but what is asked of digest and cipher.
+use Rattle.std.specs.Prelude.{Result, Ok}
+use Rattle.sizes.specs.declared.Refusal.{Refusal}
 use Prim.Native.Nat.{ℕ, ◌-◌, ◌≤◌}
 use mathlib.Core.Path.{◌≡◌, refl, sym, ap, subst, ◌∙◌}
 use mathlib.Core.Bool.{Bool, true}
@@ -11,15 +13,12 @@ use lib.Dec.{eqb}
 use borrow.Author.Tests.{eqb-true, eq-eqb, le-leb}
 use Rattle.words.specs.Bytes.{zeros}
 use Rattle.words.proofs.Splice.{length-zeros}
-use Rattle.sizes.specs.declared.Outcome.{Outcome}
 use Rattle.sizes.specs.Refusals.{kept_or}
 use Rattle.sizes.specs.Sizes.{record_len, path_len, item_of, place_in}
 use Rattle.desk.specs.declared.Kind.TheVariants.{Read}
 use Rattle.desk.specs.Readers.{kind_asked, written_of, is_written, status_of}
 use Rattle.desk.specs.Status.{ready_status}
 use Rattle.items.specs.Items.{Means, Sound}
-use Rattle.asks.specs.declared.Asked.{Asked}
-use Rattle.asks.specs.declared.Asked.TheVariants as asked
 use Rattle.asks.specs.Ask.{ask_of}
 use Rattle.asks.proofs.Opened.{opened-changed}
 use Rattle.store.specs.declared.Finished.{Finished}
@@ -77,7 +76,7 @@ module _ (m : Means) (o : Sound m) (d : DemandTwo m (echoing m)) where
   kept-one : Kept m (echoing m) small (returned small one) one
   kept-one = d small (omega arith) one reached-one
 
-  answer_is : f.answer ≡ finished.Done
+  answer_is : f.answer ≡ Ok finished.Done
   answer_is = sym (ap (λ (x : FinishResult). x.answer) works) ∙ (kept-one.plain some_path some_buffer back echo-done writing refl).0
 
   -- ---- the state after it
@@ -88,7 +87,7 @@ module _ (m : Means) (o : Sound m) (d : DemandTwo m (echoing m)) where
   reached-two : Reached (echoing m) small (returned small) two
   reached-two =
       let e : after (echoing m) small.sizes one (finishes some_path some_buffer) ≡ two =
-      ap (λ (x : FinishResult). after_finish small.sizes one x.answer x) works ∙ ap (λ (a : Finished). after_finish small.sizes one a f) answer_is in
+      ap (λ (x : FinishResult). after_finish small.sizes one x.answer x) works ∙ ap (λ (a : Result Finished Refusal). after_finish small.sizes one a f) answer_is in
       subst (λ (x : State). Reached (echoing m) small (returned small) x) e
       (reached-more (echoing m) small (returned small) one reached-one (finishes some_path some_buffer) (λ a. back))
 
@@ -103,15 +102,15 @@ module _ (m : Means) (o : Sound m) (d : DemandTwo m (echoing m)) where
 
   -- ---- the second ask
 
-  leaf-is : (ask_for (echoing m) two reading).answer ≡ asked.Leaf 1
+  leaf-is : (ask_for (echoing m) two reading).answer ≡ Ok 1
   leaf-is = kept-two.takes ready-two reading (omega arith) (omega arith) (omega arith) refl
 
   abbrev three : State
-  three = after_ask two reading (asked.Leaf 1) (ask_of two.desk Read 1 1 []).desk
+  three = after_ask two reading (Ok 1) (ask_of two.desk Read 1 1 []).desk
 
   reached-three : Reached (echoing m) small (returned small) three
   reached-three =
-      subst (λ (x : State). Reached (echoing m) small (returned small) x) (ap (λ (a : Asked). after_ask two reading a (ask_of two.desk Read 1 1 []).desk) leaf-is)
+      subst (λ (x : State). Reached (echoing m) small (returned small) x) (ap (λ (a : Result ℕ Refusal). after_ask two reading a (ask_of two.desk Read 1 1 []).desk) leaf-is)
       (reached-more (echoing m) small (returned small) two reached-two (asks reading) tt)
 
   written-three : written_of three.desk ≡ 1
@@ -126,7 +125,7 @@ module _ (m : Means) (o : Sound m) (d : DemandTwo m (echoing m)) where
       let t = done-through m one.desk some_path some_buffer c in
       let v = first-stands m o small lent small-proper writing writing-fits in
       let s = first-open m o small lent small-proper writing writing-fits in
-      ap length (ap (λ (x : Outcome). kept_or x some_path (new_path m one.desk some_path)) c)
+      ap length (ap (λ (x : Result Unit Refusal). kept_or x some_path (new_path m one.desk some_path)) c)
       ∙ path_size m o small (omega arith) one v some_path some_buffer t (returned-agrees m o small (omega arith) one v s some_path back)
 
   back-three : returned small three f.path

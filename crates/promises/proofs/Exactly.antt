@@ -1,4 +1,5 @@
 -- At an open desk with right lengths: Forged exactly if a check fails; else Worn, Full, or accepted, each exactly by its row. Assumes nothing.
+use Rattle.std.specs.Prelude.{Err, Ok, Result}
 use Prim.Native.Nat.{ℕ, zero, suc, ◌<◌, ◌≤◌}
 use mathlib.Core.Path.{◌≡◌, refl, sym, ap, ◌∙◌}
 use mathlib.Core.Logic.{◌↔◌}
@@ -12,8 +13,6 @@ use Rattle.words.specs.Tests.{all}
 use Rattle.words.proofs.Tests.{by_cases, and_left, and_right, all-fails}
 use Rattle.sizes.specs.declared.Refusal.{Refusal}
 use Rattle.sizes.specs.declared.Refusal.TheVariants.{Forged, Worn, Full}
-use Rattle.sizes.specs.declared.Outcome.{Outcome}
-use Rattle.sizes.specs.declared.Outcome.TheVariants.{Done, Refused}
 use Rattle.sizes.specs.Refusals.{first_of}
 use Rattle.sizes.specs.Sizes.{path_len}
 use Rattle.desk.specs.Layout.{room_of}
@@ -44,7 +43,7 @@ fails-at p (suc n) h =
     (λ e. (n, omega arith, e))
 
 -- two outcomes that differ
-differ : (o : Outcome) (p q : Outcome) → o ≡ p → o ≡ q → (p ≡ q → ⊥) → ⊥
+differ : (o : Result Unit Refusal) (p q : Result Unit Refusal) → o ≡ p → o ≡ q → (p ≡ q → ⊥) → ⊥
 differ o p q a b n = n (sym a ∙ b)
 
 module _ (m : Means) (desk path : List ℕ) where
@@ -65,7 +64,7 @@ module _ (m : Means) (desk path : List ℕ) where
   full = ltb (room_of desk) (length (new_stash m desk path))
 
   module _ (buffer : List ℕ) (r : Ready desk path buffer) where
-    abbrev answer : Finished
+    abbrev answer : Result Finished Refusal
     answer = (finish_of m desk path buffer).answer
 
     -- the rows that are left
@@ -75,13 +74,13 @@ module _ (m : Means) (desk path : List ℕ) where
     rows g w f a b c =
         rw (r.good, r.status, r.path_length, r.buffer_length, eq-eqb (path_len (sizes_of desk)) (path_len (sizes_of desk)) refl, a, b, c)
 
-    refused : (q : Refusal) → answer ≡ finished.Refused q → finish_checked m desk path buffer ≡ Refused q
+    refused : (q : Refusal) → answer ≡ Err q → finish_checked m desk path buffer ≡ Err q
     refused q h = finished-refused (finish_checked m desk path buffer) (kind_asked desk) (was_marked m desk path) q h
 
-    comes : (o : Outcome) → finish_checked m desk path buffer ≡ o → answer ≡ finished_or o (answer_for (kind_asked desk) (was_marked m desk path))
-    comes o e = ap (λ (o : Outcome). finished_or o (answer_for (kind_asked desk) (was_marked m desk path))) e
+    comes : (o : Result Unit Refusal) → finish_checked m desk path buffer ≡ o → answer ≡ finished_or o (answer_for (kind_asked desk) (was_marked m desk path))
+    comes o e = ap (λ (o : Result Unit Refusal). finished_or o (answer_for (kind_asked desk) (was_marked m desk path))) e
 
-    forged-exactly : (answer ≡ finished.Refused Forged) ↔ (Genuine m desk path → ⊥)
+    forged-exactly : (answer ≡ Err Forged) ↔ (Genuine m desk path → ⊥)
     forged-exactly = (
       (λ h g.
           let t = checks-genuine m desk path g in
@@ -91,39 +90,39 @@ module _ (m : Means) (desk path : List ℕ) where
       λ n.
           by_cases (genuine m desk path)
           (λ e. absurd (n (genuine-checks m desk path e)))
-          (λ e. comes (Refused Forged) (rows false (worn m desk path) full e refl refl)),
+          (λ e. comes (Err Forged) (rows false (worn m desk path) full e refl refl)),
     )
       where
-        other : Refused Worn ≡ Refused Forged → ⊥
+        other : Err Worn ≡ Err Forged → ⊥
         other z = let y : ◌≡◌ {A = ℕ} 0 1 = cc in omega arith
 
-        other₂ : Refused Full ≡ Refused Forged → ⊥
+        other₂ : Err Full ≡ Err Forged → ⊥
         other₂ z = let y : ◌≡◌ {A = ℕ} 0 1 = cc in omega arith
 
-        other₃ : Done ≡ Refused Forged → ⊥
+        other₃ : (Ok tt) ≡ Err Forged → ⊥
         other₃ z = let y : ◌≡◌ {A = ℕ} 0 1 = cc in omega arith
 
     module _ (g : Genuine m desk path) where
       past : (w f : Bool) → worn m desk path ≡ w → full ≡ f → finish_checked m desk path buffer ≡ first_of ((w, Worn) ∷ (f, Full) ∷ [])
       past w f a b = rows true w f (checks-genuine m desk path g) a b
 
-      worn-exactly : (answer ≡ finished.Refused Worn) ↔ WornOut m desk path
+      worn-exactly : (answer ≡ Err Worn) ↔ WornOut m desk path
       worn-exactly = (
         (λ h.
             by_cases (worn m desk path) worn-out
             (λ w.
             absurd
             (by_cases full (λ f. differ _ _ _ (past false true w f) (refused Worn h) other) (λ f. differ _ _ _ (past false false w f) (refused Worn h) other₂)))),
-        λ w. comes (Refused Worn) (past true full (out-worn w) refl),
+        λ w. comes (Err Worn) (past true full (out-worn w) refl),
       )
         where
-          other : Refused Full ≡ Refused Worn → ⊥
+          other : Err Full ≡ Err Worn → ⊥
           other z = let y : ◌≡◌ {A = ℕ} 0 1 = cc in omega arith
 
-          other₂ : Done ≡ Refused Worn → ⊥
+          other₂ : (Ok tt) ≡ Err Worn → ⊥
           other₂ z = let y : ◌≡◌ {A = ℕ} 0 1 = cc in omega arith
 
-      full-exactly : (answer ≡ finished.Refused Full) ↔ ((WornOut m desk path → ⊥) × (room_of desk < length (new_stash m desk path)))
+      full-exactly : (answer ≡ Err Full) ↔ ((WornOut m desk path → ⊥) × (room_of desk < length (new_stash m desk path)))
       full-exactly = (
         (λ h.
             by_cases (worn m desk path)
@@ -132,20 +131,20 @@ module _ (m : Means) (desk path : List ℕ) where
             by_cases full
             (λ f. ((λ z. no_true (sym (out-worn z) ∙ w)), ltb-true _ _ f))
             (λ f. absurd (differ _ _ _ (past false false w f) (refused Full h) other₂)))),
-        λ k. by_cases (worn m desk path) (λ w. absurd (k.0 (worn-out w))) (λ w. comes (Refused Full) (past false true w (lt-ltb _ _ k.1))),
+        λ k. by_cases (worn m desk path) (λ w. absurd (k.0 (worn-out w))) (λ w. comes (Err Full) (past false true w (lt-ltb _ _ k.1))),
       )
         where
-          other : Refused Worn ≡ Refused Full → ⊥
+          other : Err Worn ≡ Err Full → ⊥
           other z = let y : ◌≡◌ {A = ℕ} 0 1 = cc in omega arith
 
-          other₂ : Done ≡ Refused Full → ⊥
+          other₂ : (Ok tt) ≡ Err Full → ⊥
           other₂ z = let y : ◌≡◌ {A = ℕ} 0 1 = cc in omega arith
 
       else-accepted : (WornOut m desk path → ⊥) → length (new_stash m desk path) ≤ room_of desk → Accepted answer
       else-accepted n l =
           by_cases (worn m desk path)
           (λ w. absurd (n (worn-out w)))
-          (λ w. rw (comes Done (past false false w (le-ltb _ _ l))) (answer-accepted (kind_asked desk) (was_marked m desk path)))
+          (λ w. rw (comes (Ok tt) (past false false w (le-ltb _ _ l))) (answer-accepted (kind_asked desk) (was_marked m desk path)))
 
 pub exactly : (m : Means) → Exactly m (ours m)
 exactly m =

@@ -1,4 +1,6 @@
 -- There are runs: what stands after format, and at the first request. Assumes nothing but what is asked of digest and cipher.
+use Rattle.sizes.specs.declared.Refusal.{Refusal}
+use Rattle.std.specs.Prelude.{Ok, Err, Result}
 use Prim.Native.Nat.{ℕ, zero, suc, ◌-◌, ◌<◌, ◌≤◌}
 use mathlib.Core.Path.{◌≡◌, refl, sym, ap, ap₂, subst, ◌∙◌}
 use mathlib.Core.Logic.{◌≢◌}
@@ -12,7 +14,6 @@ use Rattle.words.specs.Tests.{all}
 use Rattle.words.proofs.Tests.{and_left, all_true}
 use Rattle.sizes.specs.declared.Sizes.{Sizes}
 use Rattle.sizes.specs.declared.Refusal.TheVariants.{Full}
-use Rattle.sizes.specs.declared.Outcome.TheVariants.{Done}
 use Rattle.sizes.specs.Sizes.{leaves, record_len, key_len, path_len, desk_len}
 use Rattle.sizes.proofs.Lengths.{range-sizes}
 use Rattle.desk.specs.Readers.{written_of, is_written, status_of, kind_asked}
@@ -23,8 +24,6 @@ use Rattle.items.specs.Items.{Means, Sound}
 use Rattle.items.specs.Way.{reachable}
 use Rattle.opening.specs.Opening.{view_of}
 use Rattle.opening.proofs.Tests.{no_true}
-use Rattle.asks.specs.declared.Asked.{Asked}
-use Rattle.asks.specs.declared.Asked.TheVariants as asked
 use Rattle.asks.specs.Ask.{record_fits, ask_of, opened}
 use Rattle.asks.proofs.Passed.{AskPassed}
 use Rattle.asks.proofs.Opened.{opened-changed}
@@ -49,7 +48,7 @@ use Rattle.promises.proofs.Past.{late-ready}
 
 -- ---- format takes a proper start
 
-pub proper-formats : (b : Start) (lent : List ℕ) → Proper b lent → (format_for b lent).answer ≡ Done
+pub proper-formats : (b : Start) (lent : List ℕ) → Proper b lent → (format_for b lent).answer ≡ Ok tt
 unfolding format_checked
 proper-formats b lent p =
     let a : all (length b.starts) (λ i. ltb (get_or b.starts i 0) (leaves b.sizes)) ≡ true =
@@ -77,7 +76,7 @@ not_worn m desk path e w = no_true (sym (reach-root (view_of desk) path w.0 w.1.
 -- ---- the first request
 
 module _ (m : Means) (o : Sound m) (b : Start) (lent : List ℕ) (p : Proper b lent) where
-  f : (format_for b lent).answer ≡ Done
+  f : (format_for b lent).answer ≡ Ok tt
   f = proper-formats b lent p
 
   abbrev start : State
@@ -100,7 +99,7 @@ module _ (m : Means) (o : Sound m) (b : Start) (lent : List ℕ) (p : Proper b l
     abbrev leaf : ℕ
     leaf = get_or b.starts (r.id - 1) 0
 
-    pub first_leaf : (ask_for (ours m) start r).answer ≡ asked.Leaf leaf
+    pub first_leaf : (ask_for (ours m) start r).answer ≡ Ok leaf
     first_leaf = ask-takes m b start stands start-ready r i.id_low i.id_high i.leaf_low i.fits
 
     passed-ask : AskPassed start.desk r.kind r.id r.leaf r.content
@@ -111,15 +110,15 @@ module _ (m : Means) (o : Sound m) (b : Start) (lent : List ℕ) (p : Proper b l
     asked-desk = opened start.desk r.kind r.id r.leaf r.content
 
     abbrev pub first : State
-    first = after_ask start r (asked.Leaf leaf) asked-desk
+    first = after_ask start r (Ok leaf) asked-desk
 
     desk_is : (ask_for (ours m) start r).desk ≡ asked-desk
     desk_is = (asked_leaf start.desk r.kind r.id r.leaf r.content leaf first_leaf).after
 
     pub first-is : steps.after (ours m) b.sizes start (asks r) ≡ first
     first-is =
-        ap (λ (a : Asked). after_ask start r a (ask_for (ours m) start r).desk) first_leaf
-        ∙ ap (after_ask start r (asked.Leaf leaf)) desk_is
+        ap (λ (a : Result ℕ Refusal). after_ask start r a (ask_for (ours m) start r).desk) first_leaf
+        ∙ ap (after_ask start r (Ok leaf)) desk_is
 
     pub first-stands : Stands m b first
     first-stands = opened-stands m b start stands r leaf first_leaf
@@ -160,7 +159,7 @@ module _ (m : Means) (o : Sound m) (b : Start) (lent : List ℕ) (p : Proper b l
 -- ---- a stash with room for every id is never full
 
 never_full : (m : Means) → Sound m → (b : Start) → b.room < 256 → b.ids ≤ b.room → (st : State) → Reached (ours m) b (returned b) st → (path buffer : List ℕ)
-    → returned b st path → (finish_for (ours m) st path buffer).answer ≢ finished.Refused Full
+    → returned b st path → (finish_for (ours m) st path buffer).answer ≢ Err Full
 never_full m o b byte roomy st r path buffer h e =
     let v = reached-stands m o b byte (returned b) (returned-agrees m o b byte) st r in
     let y = late-ready m st.desk path buffer Full (omega arith)
@@ -171,8 +170,8 @@ never_full m o b byte roomy st r path buffer h e =
 
 -- ---- a run of demand 3
 
-shows-one : (a : Asked) (p : ℕ) (more : ℕ → List ℕ) → a ≡ asked.Leaf p → shown_if a (λ p. p ∷ more p) ≡ p ∷ more p
-shows-one a p more e = ap (λ (a : Asked). shown_if a (λ p. p ∷ more p)) e
+shows-one : (a : Result ℕ Refusal) (p : ℕ) (more : ℕ → List ℕ) → a ≡ Ok p → shown_if a (λ p. p ∷ more p) ≡ p ∷ more p
+shows-one a p more e = ap (λ (a : Result ℕ Refusal). shown_if a (λ p. p ∷ more p)) e
 
 run-shows : (m : Means) (n : ℕ) (draws : List ℕ) (r : Run n draws) (u x : ℕ) (us xs : List ℕ) (e : Around) (es : List Around)
     → 0 < u → u ≤ n → drop n draws ≡ x ∷ xs → r.around ≡ e ∷ es → x < leaves r.start.sizes → record_fits record_len e.kind e.content ≡ true

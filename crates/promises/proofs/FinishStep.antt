@@ -1,4 +1,5 @@
 -- A finish keeps what stands, over any path that agrees with the server where it is reachable. Assumes nothing but what is asked of digest and cipher.
+use Rattle.std.specs.Prelude.{Err, Result, Ok}
 use Prim.Native.Nat.{ℕ, ◌<◌, ◌≤◌}
 use mathlib.Core.Path.{◌≡◌, refl, sym, ap, ap₂, subst, ◌∙◌}
 use mathlib.Core.Logic.{◌≢◌}
@@ -13,8 +14,6 @@ use Rattle.words.proofs.Tests.{by_cases}
 use Rattle.sizes.specs.declared.Sizes.{Sizes}
 use Rattle.sizes.specs.declared.Refusal.{Refusal}
 use Rattle.sizes.specs.declared.Refusal.TheVariants.{BadDesk, Stopped, Open, NotOpen, BadId, BadLeaf, BadLength, BadSize, Forged, Worn, Full}
-use Rattle.sizes.specs.declared.Outcome.{Outcome}
-use Rattle.sizes.specs.declared.Outcome.TheVariants.{Refused}
 use Rattle.sizes.specs.Sizes.{record_len, path_len}
 use Rattle.desk.specs.declared.Kind.{Kind}
 use Rattle.desk.specs.declared.Kind.TheVariants.{Read, Write}
@@ -78,7 +77,7 @@ module _ (m : Means) (o : Sound m) (b : Start) (byte : b.room < 256) (st : State
         drawn_open = λ e u g l. absurd (omega (arith, c.status));
       }
 
-  refused-stands : (q : Refusal) → finish_checked m desk path buffer ≡ Refused q → Stands m b (only_desk st (stopped q desk))
+  refused-stands : (q : Refusal) → finish_checked m desk path buffer ≡ Err q → Stands m b (only_desk st (stopped q desk))
   refused-stands BadDesk h = same-desk m b st v desk refl
   refused-stands Stopped h = same-desk m b st v desk refl
   refused-stands Open h = same-desk m b st v desk refl
@@ -182,12 +181,12 @@ module _ (m : Means) (o : Sound m) (b : Start) (byte : b.room < 256) (st : State
       done-by : Accepted result.answer → Stands m b (accepted b.sizes st result)
       done-by a =
           let d = finished-done (finish_checked m desk path buffer) _ a in
-          subst (λ (c : Outcome). Stands m b (accepted b.sizes st (finish_by c m desk path buffer))) (sym d) (done-stands (through-of a) (fair a))
+          subst (λ (c : Result Unit Refusal). Stands m b (accepted b.sizes st (finish_by c m desk path buffer))) (sym d) (done-stands (through-of a) (fair a))
 
-      go : (a : Finished) → result.answer ≡ a → Stands m b (after_finish b.sizes st a result)
-      go finished.Record h = done-by (λ q k. accept-record q (sym h ∙ k))
-      go finished.Never h = done-by (λ q k. accept-never q (sym h ∙ k))
-      go finished.Done h = done-by (λ q k. accept-done q (sym h ∙ k))
-      go (finished.Refused q) h =
+      go : (a : Result Finished Refusal) → result.answer ≡ a → Stands m b (after_finish b.sizes st a result)
+      go (Ok finished.Record) h = done-by (λ q k. accept-record q (sym h ∙ k))
+      go (Ok finished.Never) h = done-by (λ q k. accept-never q (sym h ∙ k))
+      go (Ok finished.Done) h = done-by (λ q k. accept-done q (sym h ∙ k))
+      go (Err q) h =
           let d = finished-refused (finish_checked m desk path buffer) (kind_asked desk) _ q h in
-          subst (λ (x : Outcome). Stands m b (only_desk st (stopped_or x desk (new_desk m desk path)))) (sym d) (refused-stands q d)
+          subst (λ (x : Result Unit Refusal). Stands m b (only_desk st (stopped_or x desk (new_desk m desk path)))) (sym d) (refused-stands q d)

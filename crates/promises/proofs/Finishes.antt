@@ -1,5 +1,6 @@
 -- The laws of one call hold of our store: a good desk stays good, and what one finish hands back and leaves. Assumes nothing but what is asked of digest
 -- and cipher.
+use Rattle.std.specs.Prelude.{Err, Ok, Result}
 use Prim.Native.Nat.{ℕ, zero, suc, ◌<◌, ◌≤◌}
 use mathlib.Core.Path.{◌≡◌, refl, sym, ap, ap₂, subst, ◌∙◌}
 use mathlib.Core.Bool.{Bool, true, false}
@@ -9,8 +10,6 @@ use lib.ListN.{length, get_or, set}
 use Rattle.words.proofs.Tests.{by_cases}
 use Rattle.sizes.specs.declared.Refusal.{Refusal}
 use Rattle.sizes.specs.declared.Refusal.TheVariants.{BadDesk, Stopped, Open, NotOpen, BadId, BadLeaf, BadLength, BadSize, Forged, Worn, Full}
-use Rattle.sizes.specs.declared.Outcome.{Outcome}
-use Rattle.sizes.specs.declared.Outcome.TheVariants.{Done, Refused}
 use Rattle.sizes.specs.Refusals.{number_of}
 use Rattle.bags.specs.Bags.{cnt, those}
 use Rattle.bags.proofs.Those.{those-none}
@@ -30,8 +29,6 @@ use Rattle.opening.proofs.Tests.{no_true}
 use Rattle.opening.proofs.Open.{good-open}
 use Rattle.opening.proofs.Genuine.{genuine-checks, checks-genuine}
 use Rattle.opening.proofs.Gathered.{gathered-placeable, record-length}
-use Rattle.asks.specs.declared.Asked.{Asked}
-use Rattle.asks.specs.declared.Asked.TheVariants as asked
 use Rattle.asks.specs.Ask.{ask_of}
 use Rattle.asks.proofs.Opened.{opened-good}
 use Rattle.formats.proofs.Formatted.{formatted-good}
@@ -57,17 +54,17 @@ stop-good desk t low high s g =
 ask-good : (m : Means) (desk : List ℕ) (kind : Kind) (id leaf : ℕ) (rec : List ℕ) → good_desk desk ≡ true → good_desk (ask_of desk kind id leaf rec).desk ≡ true
 ask-good m desk kind id leaf rec g = go (ask_of desk kind id leaf rec).answer refl
   where
-    go : (a : Asked) → (ask_of desk kind id leaf rec).answer ≡ a → good_desk (ask_of desk kind id leaf rec).desk ≡ true
-    go (asked.Leaf p) h = let l = asked_leaf desk kind id leaf rec p h in ap good_desk l.after ∙ opened-good desk kind id leaf rec l.passed
-    go (asked.Refused q) h = ap good_desk ((demand-one m).ask_refuses desk kind id leaf rec q h) ∙ g
+    go : (a : Result ℕ Refusal) → (ask_of desk kind id leaf rec).answer ≡ a → good_desk (ask_of desk kind id leaf rec).desk ≡ true
+    go (Ok p) h = let l = asked_leaf desk kind id leaf rec p h in ap good_desk l.after ∙ opened-good desk kind id leaf rec l.passed
+    go (Err q) h = ap good_desk ((demand-one m).ask_refuses desk kind id leaf rec q h) ∙ g
 
 keeps-finish : (m : Means) → Sound m → (desk path buffer : List ℕ) → room_of desk < 256 → good_desk desk ≡ true → good_desk (finish_of m desk path buffer).desk ≡ true
 keeps-finish m o desk path buffer byte g = go (finish_checked m desk path buffer) refl
   where
-    late : (t : ℕ) (q : Refusal) → open_status < t → t ≤ most_status → 9 ≤ number_of q → finish_checked m desk path buffer ≡ Refused q → good_desk (at_status t desk) ≡ true
+    late : (t : ℕ) (q : Refusal) → open_status < t → t ≤ most_status → 9 ≤ number_of q → finish_checked m desk path buffer ≡ Err q → good_desk (at_status t desk) ≡ true
     late t q low high n h = stop-good desk t low high (late-ready m desk path buffer q n h).status g
 
-    refused : (q : Refusal) → finish_checked m desk path buffer ≡ Refused q → good_desk (stopped q desk) ≡ true
+    refused : (q : Refusal) → finish_checked m desk path buffer ≡ Err q → good_desk (stopped q desk) ≡ true
     refused BadDesk h = g
     refused Stopped h = g
     refused Open h = g
@@ -80,11 +77,11 @@ keeps-finish m o desk path buffer byte g = go (finish_checked m desk path buffer
     refused Worn h = late 3 Worn (omega arith) (omega arith) (omega arith) h
     refused Full h = late 4 Full (omega arith) (omega arith) (omega arith) h
 
-    go : (c : Outcome) → finish_checked m desk path buffer ≡ c → good_desk (finish_of m desk path buffer).desk ≡ true
-    go Done h =
+    go : (c : Result Unit Refusal) → finish_checked m desk path buffer ≡ c → good_desk (finish_of m desk path buffer).desk ≡ true
+    go (Ok tt) h =
         let t = done-through m desk path buffer h in
-        ap (λ (c : Outcome). good_desk (stopped_or c desk (new_desk m desk path))) h ∙ now-good m o desk path (through-checked m desk path buffer t (omega arith)) t.fits
-    go (Refused q) h = ap (λ (c : Outcome). good_desk (stopped_or c desk (new_desk m desk path))) h ∙ refused q h
+        ap (λ (c : Result Unit Refusal). good_desk (stopped_or c desk (new_desk m desk path))) h ∙ now-good m o desk path (through-checked m desk path buffer t (omega arith)) t.fits
+    go (Err q) h = ap (λ (c : Result Unit Refusal). good_desk (stopped_or c desk (new_desk m desk path))) h ∙ refused q h
 
 pub keeps_good : (m : Means) → Sound m → KeepsGood (ours m)
 keeps_good m o =
@@ -119,7 +116,7 @@ lookup-one u (x ∷ xs) b h =
     (λ e. rw e (lookup-one u xs b (rw e at h)))
 
 -- a record is answered to a read of a marked id
-record-read : (kind : Kind) (marked : Bool) → answer_for kind marked ≡ finished.Record → (kind ≡ Read) × (marked ≡ true)
+record-read : (kind : Kind) (marked : Bool) → answer_for kind marked ≡ Ok finished.Record → (kind ≡ Read) × (marked ≡ true)
 record-read Read true h = (refl, refl)
 record-read Read false h = let z : ◌≡◌ {A = ℕ} 0 1 = cc in absurd (omega arith)
 record-read Write marked h = let z : ◌≡◌ {A = ℕ} 0 1 = cc in absurd (omega arith)
@@ -131,16 +128,16 @@ set_back (x ∷ xs) zero a = refl
 set_back (x ∷ xs) (suc i) a = ap (λ (l : List ℕ). x ∷ l) (set_back xs i a)
 
 module _ (m : Means) (o : Sound m) (desk path buffer : List ℕ) where
-  late-genuine : (q : Refusal) → 10 ≤ number_of q → (finish_of m desk path buffer).answer ≡ finished.Refused q → Genuine m desk path
+  late-genuine : (q : Refusal) → 10 ≤ number_of q → (finish_of m desk path buffer).answer ≡ Err q → Genuine m desk path
   late-genuine q n h =
       let r = late-ready m desk path buffer q (omega arith) (finished-refused (finish_checked m desk path buffer) (kind_asked desk) (was_marked m desk path) q h) in
       by_cases (genuine m desk path) (genuine-checks m desk path)
       (λ e. absurd (other (sym (((exactly m).forged desk path buffer r).1 (λ g. no_true (sym (checks-genuine m desk path g) ∙ e))) ∙ h)))
     where
-      other : finished.Refused Forged ≡ finished.Refused q → ⊥
+      other : Err Forged ≡ Err q → ⊥
       other e = let f : Forged ≡ q = cc in omega (arith, ap number_of f)
 
-  restores : (q : Refusal) → 9 ≤ number_of q → (finish_of m desk path buffer).answer ≡ finished.Refused q
+  restores : (q : Refusal) → 9 ≤ number_of q → (finish_of m desk path buffer).answer ≡ Err q
       → (at_status open_status (finish_of m desk path buffer).desk ≡ desk) × ((finish_of m desk path buffer).path ≡ path)
   unfolding at_status
   restores q n h =
@@ -150,7 +147,7 @@ module _ (m : Means) (o : Sound m) (desk path buffer : List ℕ) where
         k.1,
       )
 
-  module _ (byte : room_of desk < 256) (h : finish_checked m desk path buffer ≡ Done) where
+  module _ (byte : room_of desk < 256) (h : finish_checked m desk path buffer ≡ Ok tt) where
     through : Through m desk path buffer
     through = done-through m desk path buffer h
 
@@ -174,7 +171,7 @@ module _ (m : Means) (o : Sound m) (desk path buffer : List ℕ) where
         }
 
     leaves_is : Leaves m desk path (finish_of m desk path buffer).desk
-    leaves_is = subst (λ (c : Outcome). Leaves m desk path (stopped_or c desk (new_desk m desk path))) (sym h) leaves-new
+    leaves_is = subst (λ (c : Result Unit Refusal). Leaves m desk path (stopped_or c desk (new_desk m desk path))) (sym h) leaves-new
 
     hands-new : was_marked m desk path ≡ true → HandsBack m desk path (record_found m desk path)
     hands-new w =
@@ -201,10 +198,10 @@ each_finish m o =
       restored = λ desk path buffer q n h. restores m o desk path buffer q n h;
     }
   where
-    hands : (desk path buffer : List ℕ) → room_of desk < 256 → (finish_of m desk path buffer).answer ≡ finished.Record → HandsBack m desk path (finish_of m desk path buffer).buffer
+    hands : (desk path buffer : List ℕ) → room_of desk < 256 → (finish_of m desk path buffer).answer ≡ Ok finished.Record → HandsBack m desk path (finish_of m desk path buffer).buffer
     hands desk path buffer byte h =
-        let d : finish_checked m desk path buffer ≡ Done = finished-done (finish_checked m desk path buffer) _ (λ q k. accept-record q (sym h ∙ k)) in
-        let r = record-read (kind_asked desk) (was_marked m desk path) (sym (ap (λ (c : Outcome). finished_or c (answer_for (kind_asked desk) (was_marked m desk path))) d) ∙ h) in
+        let d : finish_checked m desk path buffer ≡ Ok tt = finished-done (finish_checked m desk path buffer) _ (λ q k. accept-record q (sym h ∙ k)) in
+        let r = record-read (kind_asked desk) (was_marked m desk path) (sym (ap (λ (c : Result Unit Refusal). finished_or c (answer_for (kind_asked desk) (was_marked m desk path))) d) ∙ h) in
         let e : (finish_of m desk path buffer).buffer ≡ record_found m desk path =
         rw d (ap₂ (λ (k : Kind) (w : Bool). buffer_for k w (record_found m desk path) buffer) r.0 r.1) in
         subst (λ (x : List ℕ). HandsBack m desk path x) (sym e) (hands-new m o desk path buffer byte d r.1)

@@ -1,4 +1,5 @@
 -- The first request on a fresh store, of any kind, is accepted, and answers as an empty table does. Assumes nothing.
+use Rattle.std.specs.Prelude.{Ok}
 use Prim.Native.Nat.{ℕ, ◌+◌, ◌-◌, ◌<◌, ◌≤◌}
 use mathlib.Core.Path.{◌≡◌, refl, sym, ap, subst, ◌∙◌}
 use mathlib.Core.Option.{none}
@@ -8,7 +9,6 @@ use lib.ListN.{length}
 use borrow.Author.Tests.{eq-eqb, le-leb, lt-ltb}
 use Rattle.words.specs.Bytes.{zeros}
 use Rattle.words.proofs.Splice.{length-zeros}
-use Rattle.sizes.specs.declared.Outcome.TheVariants.{Done}
 use Rattle.sizes.specs.Sizes.{record_len, leaves, path_len, tree_len}
 use Rattle.desk.specs.declared.Kind.{Kind}
 use Rattle.desk.specs.Layout.{ids_of}
@@ -47,7 +47,7 @@ module _ (b : Start) (lent : List ℕ) (p : Proper b lent) (tree : List ℕ) (si
   kept = (demand-two-tree real real-sound b p.room_byte ts reached).kept
 
   -- a range of one id is not refused
-  pub checked : (id draw : ℕ) → 1 ≤ id → id ≤ b.ids → row_checked desk tree id (id + 1) (draw ∷ []) ≡ Done
+  pub checked : (id draw : ℕ) → 1 ≤ id → id ≤ b.ids → row_checked desk tree id (id + 1) (draw ∷ []) ≡ Ok tt
   unfolding row_checked
   checked id draw low high =
       let n : id + 1 ≤ ids_of desk + 1 = omega (arith, kept.ids) in

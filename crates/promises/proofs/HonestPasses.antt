@@ -1,5 +1,6 @@
 -- A sheet passed through the store over a server that returns what was last written: the entries that were done are in the plain table, and where all are
 -- done the sheet holds what the table's requests hand back. Assumes nothing.
+use Rattle.std.specs.Prelude.{Err, Ok, Result}
 use Prim.Native.Nat.{ℕ, suc, ◌+◌, ◌*◌, ◌<◌, ◌≤◌}
 use mathlib.Core.Path.{◌≡◌, refl, sym, ap, subst, ◌∙◌}
 use mathlib.Core.Logic.{◌≢◌}
@@ -12,8 +13,6 @@ use Rattle.words.proofs.Tests.{below_or}
 use Rattle.words.proofs.Splice.{length_part}
 use Rattle.sizes.specs.declared.Refusal.{Refusal}
 use Rattle.sizes.specs.declared.Refusal.TheVariants.{Forged}
-use Rattle.sizes.specs.declared.Outcome.{Outcome}
-use Rattle.sizes.specs.declared.Outcome.TheVariants as outcome
 use Rattle.sizes.specs.Sizes.{record_len, path_len}
 use Rattle.sizes.proofs.Rows.{not-refused}
 use Rattle.desk.specs.Readers.{sizes_of}
@@ -37,14 +36,14 @@ use Rattle.promises.proofs.TableSheets.{after_none, after-above, after_one}
 
 module _ (b : Start) (table : Table) (id : ℕ) (entry : List ℕ) where
   record EntryIs (r : EntryResult) : Type 0 where
-    done : r.answer ≡ outcome.Done → Stands b (plain_table (kind_of entry) id entry table) r.desk r.tree
-    entry-is : r.answer ≡ outcome.Done → r.entry ≡ plain_buffer (kind_of entry) (table id) entry
-    refused : (q : Refusal) → r.answer ≡ outcome.Refused q → Stands b table r.desk r.tree
-    not_forged : r.answer ≢ outcome.Refused Forged
+    done : r.answer ≡ Ok tt → Stands b (plain_table (kind_of entry) id entry table) r.desk r.tree
+    entry-is : r.answer ≡ Ok tt → r.entry ≡ plain_buffer (kind_of entry) (table id) entry
+    refused : (q : Refusal) → r.answer ≡ Err q → Stands b table r.desk r.tree
+    not_forged : r.answer ≢ Err Forged
 
   module _ (d t p now : List ℕ) where
     done-is : Stands b (plain_table (kind_of entry) id entry table) d t → now ≡ plain_buffer (kind_of entry) (table id) entry
-        → EntryIs (requested_entry outcome.Done d t p now)
+        → EntryIs (requested_entry (Ok tt) d t p now)
     done-is s e =
         record {
           done = λ h. s;
@@ -53,7 +52,7 @@ module _ (b : Start) (table : Table) (id : ℕ) (entry : List ℕ) where
           not_forged = λ h. not-refused Forged (sym h);
         }
 
-    refused-is : (q : Refusal) → Stands b table d t → outcome.Refused q ≢ outcome.Refused Forged → EntryIs (requested_entry (outcome.Refused q) d t p now)
+    refused-is : (q : Refusal) → Stands b table d t → Err q ≢ Err Forged → EntryIs (requested_entry (Err q) d t p now)
     refused-is q s n =
         record {
           done = λ h. absurd (not-refused q h);
@@ -64,10 +63,10 @@ module _ (b : Start) (table : Table) (id : ℕ) (entry : List ℕ) where
 
     entry-by : (a : Answered) → RequestIs b table (kind_of entry) id entry a d t now → EntryIs (entry_by (requested a d t p now))
     entry-by (answered.Refused q) w = refused-is q w.stands w.not_forged
-    entry-by (answered.Asked leaf finished.Record) w = done-is w.stands (w.plain accept-record).1
-    entry-by (answered.Asked leaf finished.Never) w = done-is w.stands (w.plain accept-never).1
-    entry-by (answered.Asked leaf finished.Done) w = done-is w.stands (w.plain accept-done).1
-    entry-by (answered.Asked leaf (finished.Refused q)) w = refused-is q w.stands w.not_forged
+    entry-by (answered.Asked leaf (Ok finished.Record)) w = done-is w.stands (w.plain accept-record).1
+    entry-by (answered.Asked leaf (Ok finished.Never)) w = done-is w.stands (w.plain accept-never).1
+    entry-by (answered.Asked leaf (Ok finished.Done)) w = done-is w.stands (w.plain accept-done).1
+    entry-by (answered.Asked leaf (Err q)) w = refused-is q w.stands w.not_forged
 
 entry-is : (b : Start) → b.room < 256 → (table : Table) (desk tree path entry : List ℕ) (id x : ℕ) → Stands b table desk tree
     → EntryIs b table id entry (request_entry desk tree path entry id x)
@@ -114,31 +113,31 @@ module _ (b : Start) (byte : b.room < 256) (table : Table) (sized : (u : ℕ) (r
     pub count : ℕ
     pub count_low : count ≤ n
     pub stands : Stands b (table_after first count whole table) r.desk r.tree
-    pub all_done : r.answer ≡ outcome.Done → count ≡ n
-    pub sheet-is : r.answer ≡ outcome.Done → SheetIs n r.sheet
-    pub not_forged : r.answer ≢ outcome.Refused Forged
+    pub all_done : r.answer ≡ Ok tt → count ≡ n
+    pub sheet-is : r.answer ≡ Ok tt → SheetIs n r.sheet
+    pub not_forged : r.answer ≢ Err Forged
 
   module _ (i : ℕ) (inside : i < n) (sheet : List ℕ) (s : SheetIs i sheet) (r : EntryResult)
       (w : EntryIs b (table_after first i whole table) (first + i) (entry_at sheet i) r) where
     same : entry_at sheet i ≡ entry_at whole i
     same = s.rest i (omega arith) inside
 
-    on-stands : r.answer ≡ outcome.Done → Stands b (table_after first (suc i) whole table) r.desk r.tree
+    on-stands : r.answer ≡ Ok tt → Stands b (table_after first (suc i) whole table) r.desk r.tree
     on-stands h =
         stands-as b (plain_table (kind_of (entry_at whole i)) (first + i) (entry_at whole i) (table_after first i whole table)) (table_after first (suc i) whole table)
         r.desk r.tree (after_one first whole table i)
         (subst (λ (e : List ℕ). Stands b (plain_table (kind_of e) (first + i) e (table_after first i whole table)) r.desk r.tree) same (w.done h))
 
-    on-sheet : r.answer ≡ outcome.Done → SheetIs (suc i) (splice sheet (entry_start i) r.entry)
+    on-sheet : r.answer ≡ Ok tt → SheetIs (suc i) (splice sheet (entry_start i) r.entry)
     on-sheet h =
         sheet-on i sheet r.entry inside s
         (w.entry-is h ∙ ap (λ (e : List ℕ). plain_buffer (kind_of e) (table_after first i whole table (first + i)) e) same
         ∙ ap (λ (held : Option (List ℕ)). plain_buffer (kind_of (entry_at whole i)) held (entry_at whole i)) (after-above first whole table i (first + i) (omega arith)))
 
-    pass_on : (p now : List ℕ) (more : PassResult) → (r.answer ≡ outcome.Done → PassIs more) → (o : Outcome) → r.answer ≡ o
+    pass_on : (p now : List ℕ) (more : PassResult) → (r.answer ≡ Ok tt → PassIs more) → (o : Result Unit Refusal) → r.answer ≡ o
         → PassIs (going_on (passed r.answer r.desk r.tree p now) more o)
-    pass_on p now more f outcome.Done e = f e
-    pass_on p now more f (outcome.Refused q) e =
+    pass_on p now more f (Ok tt) e = f e
+    pass_on p now more f (Err q) e =
         record {
           count = i;
           count_low = omega arith;

@@ -1,4 +1,5 @@
 -- One read of a row over a server that returns what was last written: it leaves the table, and finds the table's own cell. Assumes nothing.
+use Rattle.std.specs.Prelude.{Err, Ok, Result}
 use Prim.Native.Nat.{ℕ, ◌<◌}
 use mathlib.Core.Path.{◌≡◌, refl, sym, ap, ◌∙◌}
 use mathlib.Core.Logic.{◌≢◌}
@@ -9,7 +10,6 @@ use lib.Dec.{eqb, lit<}
 use Rattle.words.proofs.Tests.{by_cases}
 use Rattle.sizes.specs.declared.Refusal.{Refusal}
 use Rattle.sizes.specs.declared.Refusal.TheVariants.{Forged}
-use Rattle.sizes.specs.declared.Outcome.TheVariants as outcome
 use Rattle.desk.specs.declared.Kind.TheVariants.{Read}
 use Rattle.store.specs.declared.Finished.{Finished}
 use Rattle.store.specs.declared.Finished.TheVariants as finished
@@ -31,49 +31,49 @@ use Rattle.promises.proofs.HonestRequests.{Stands, stands-as, not_low, RequestIs
 
 -- ---- a read leaves the table
 
-read_same : (f : Finished) (id : ℕ) (content : List ℕ) (table : Table) (u : ℕ) → table_as f Read id content table u ≡ table u
-read_same finished.Record id content table u = by_cases (eqb u id) (λ t. rw t) (λ t. rw t)
-read_same finished.Never id content table u = by_cases (eqb u id) (λ t. rw t) (λ t. rw t)
-read_same finished.Done id content table u = by_cases (eqb u id) (λ t. rw t) (λ t. rw t)
-read_same (finished.Refused q) id content table u = refl
+read_same : (f : Result Finished Refusal) (id : ℕ) (content : List ℕ) (table : Table) (u : ℕ) → table_as f Read id content table u ≡ table u
+read_same (Ok finished.Record) id content table u = by_cases (eqb u id) (λ t. rw t) (λ t. rw t)
+read_same (Ok finished.Never) id content table u = by_cases (eqb u id) (λ t. rw t) (λ t. rw t)
+read_same (Ok finished.Done) id content table u = by_cases (eqb u id) (λ t. rw t) (λ t. rw t)
+read_same (Err q) id content table u = refl
 
 -- ---- what is found, by what the finish answered
 
-cell-of : (chapter : ℕ) (held : Option (List ℕ)) (buffer now : List ℕ) (f : Finished)
+cell-of : (chapter : ℕ) (held : Option (List ℕ)) (buffer now : List ℕ) (f : Result Finished Refusal)
     → (Accepted f → (f ≡ plain_answer Read held) × (now ≡ plain_buffer Read held buffer))
     → (cell : Cell) → found_of chapter f now ≡ found.Cell cell → cell ≡ table_cell chapter held
-cell-of chapter none buffer now finished.Record w cell h =
+cell-of chapter none buffer now (Ok finished.Record) w cell h =
     let e = (w accept-record).0 in
     let z : ◌≡◌ {A = ℕ} 0 1 = cc in
     absurd (omega arith)
-cell-of chapter (some rec) buffer now finished.Record w cell h =
+cell-of chapter (some rec) buffer now (Ok finished.Record) w cell h =
     let e = (w accept-record).1 in
     let k : record_cell chapter now ≡ cell = cc in
     sym k ∙ ap (record_cell chapter) e
-cell-of chapter none buffer now finished.Never w cell h = cc
-cell-of chapter (some rec) buffer now finished.Never w cell h =
+cell-of chapter none buffer now (Ok finished.Never) w cell h = cc
+cell-of chapter (some rec) buffer now (Ok finished.Never) w cell h =
     let e = (w accept-never).0 in
     let z : ◌≡◌ {A = ℕ} 0 1 = cc in
     absurd (omega arith)
-cell-of chapter none buffer now finished.Done w cell h =
+cell-of chapter none buffer now (Ok finished.Done) w cell h =
     let e = (w accept-done).0 in
     let z : ◌≡◌ {A = ℕ} 0 1 = cc in
     absurd (omega arith)
-cell-of chapter (some rec) buffer now finished.Done w cell h =
+cell-of chapter (some rec) buffer now (Ok finished.Done) w cell h =
     let e = (w accept-done).0 in
     let z : ◌≡◌ {A = ℕ} 0 1 = cc in
     absurd (omega arith)
-cell-of chapter held buffer now (finished.Refused q) w cell h =
+cell-of chapter held buffer now (Err q) w cell h =
     let z : ◌≡◌ {A = ℕ} 0 1 = cc in
     absurd (omega arith)
 
-pub found-refused : (chapter : ℕ) (now : List ℕ) (q : Refusal) (f : Finished) → found_of chapter f now ≡ found.Refused q → f ≡ finished.Refused q
-found-refused chapter now q finished.Record h = let z : ◌≡◌ {A = ℕ} 0 1 = cc in absurd (omega arith)
-found-refused chapter now q finished.Never h = let z : ◌≡◌ {A = ℕ} 0 1 = cc in absurd (omega arith)
-found-refused chapter now q finished.Done h = let z : ◌≡◌ {A = ℕ} 0 1 = cc in absurd (omega arith)
-found-refused chapter now q (finished.Refused r) h = cc
+pub found-refused : (chapter : ℕ) (now : List ℕ) (q : Refusal) (f : Result Finished Refusal) → found_of chapter f now ≡ found.Refused q → f ≡ Err q
+found-refused chapter now q (Ok finished.Record) h = let z : ◌≡◌ {A = ℕ} 0 1 = cc in absurd (omega arith)
+found-refused chapter now q (Ok finished.Never) h = let z : ◌≡◌ {A = ℕ} 0 1 = cc in absurd (omega arith)
+found-refused chapter now q (Ok finished.Done) h = let z : ◌≡◌ {A = ℕ} 0 1 = cc in absurd (omega arith)
+found-refused chapter now q (Err r) h = cc
 
-pub row_low : (desk tree : List ℕ) (first end : ℕ) (draws : List ℕ) (q : Refusal) → row_checked desk tree first end draws ≡ outcome.Refused q → q ≢ Forged
+pub row_low : (desk tree : List ℕ) (first end : ℕ) (draws : List ℕ) (q : Refusal) → row_checked desk tree first end draws ≡ Err q → q ≢ Forged
 unfolding row_checked
 row_low desk tree first end draws q h = not_low q (low-refusal (row_rows desk tree first end draws) (lit< tt, (lit< tt, (lit< tt, tt))) q h)
 
@@ -94,7 +94,7 @@ module _ (b : Start) (table : Table) where
       record {
         stands = w.stands;
         cell-is = λ cell h. refused-cell q cell (table_cell chapter (table id)) h;
-        not_forged = λ h. w.not_forged (let k : q ≡ Forged = cc in ap outcome.Refused k);
+        not_forged = λ h. w.not_forged (let k : q ≡ Forged = cc in ap Err k);
       }
   read_by chapter id buffer (answered.Asked leaf f) d t p now w =
       record {

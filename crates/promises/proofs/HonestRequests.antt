@@ -1,5 +1,6 @@
 -- One request of any kind over a server that returns what was last written: it leaves the table as a plain table's request does, and the buffer holds
 -- what the table's would. Assumes nothing.
+use Rattle.std.specs.Prelude.{Err, Ok, Result}
 use Prim.Native.Nat.{ℕ, ◌<◌}
 use mathlib.Core.Path.{◌≡◌, refl, sym, ap, subst, subst₂, ◌∙◌}
 use mathlib.Core.Logic.{◌≢◌}
@@ -11,7 +12,6 @@ use lib.ListN.{length}
 use lib.Dec.{eqb, lit<}
 use Rattle.sizes.specs.declared.Refusal.{Refusal}
 use Rattle.sizes.specs.declared.Refusal.TheVariants.{Forged}
-use Rattle.sizes.specs.declared.Outcome.TheVariants as outcome
 use Rattle.sizes.specs.Sizes.{record_len}
 use Rattle.sizes.specs.Refusals.{number_of}
 use Rattle.desk.specs.declared.Kind.{Kind}
@@ -19,7 +19,6 @@ use Rattle.desk.specs.declared.Kind.TheVariants.{Read, Write}
 use Rattle.desk.specs.Readers.{position_of}
 use Rattle.items.specs.Real.{real}
 use Rattle.items.proofs.Sound.{real-sound}
-use Rattle.asks.specs.declared.Asked.TheVariants as asked
 use Rattle.asks.specs.Ask.{ask_rows, ask_checked, ask_of}
 use Rattle.store.specs.declared.Finished.{Finished}
 use Rattle.store.specs.declared.Finished.TheVariants as finished
@@ -71,33 +70,33 @@ abbrev pub table_by : Answered → Kind → ℕ → List ℕ → Table → Table
 table_by (answered.Refused q) kind id content table = table
 table_by (answered.Asked p f) kind id content table = table_as f kind id content table
 
-as_same : (f : Finished) (kind : Kind) (id : ℕ) (content : List ℕ) (table table' : Table) (u : ℕ) → table u ≡ table' u
+as_same : (f : Result Finished Refusal) (kind : Kind) (id : ℕ) (content : List ℕ) (table table' : Table) (u : ℕ) → table u ≡ table' u
     → table_as f kind id content table u ≡ table_as f kind id content table' u
-as_same finished.Record kind id content table table' u e = ap (λ (h : Option (List ℕ)). cond (eqb u id) (plain_held kind h content) h) e
-as_same finished.Never kind id content table table' u e = ap (λ (h : Option (List ℕ)). cond (eqb u id) (plain_held kind h content) h) e
-as_same finished.Done kind id content table table' u e = ap (λ (h : Option (List ℕ)). cond (eqb u id) (plain_held kind h content) h) e
-as_same (finished.Refused q) kind id content table table' u e = e
+as_same (Ok finished.Record) kind id content table table' u e = ap (λ (h : Option (List ℕ)). cond (eqb u id) (plain_held kind h content) h) e
+as_same (Ok finished.Never) kind id content table table' u e = ap (λ (h : Option (List ℕ)). cond (eqb u id) (plain_held kind h content) h) e
+as_same (Ok finished.Done) kind id content table table' u e = ap (λ (h : Option (List ℕ)). cond (eqb u id) (plain_held kind h content) h) e
+as_same (Err q) kind id content table table' u e = e
 
 -- ---- no refusal before a finish is Forged
 
 pub not_low : (q : Refusal) → number_of q < 9 → q ≢ Forged
 not_low q l e = omega (arith, ap number_of e)
 
-ask-low : (desk : List ℕ) (kind : Kind) (id leaf : ℕ) (buffer : List ℕ) (q : Refusal) → (ask_of desk kind id leaf buffer).answer ≡ asked.Refused q → q ≢ Forged
+ask-low : (desk : List ℕ) (kind : Kind) (id leaf : ℕ) (buffer : List ℕ) (q : Refusal) → (ask_of desk kind id leaf buffer).answer ≡ Err q → q ≢ Forged
 unfolding ask_checked
 ask-low desk kind id leaf buffer q h =
     not_low q
     (low-refusal (ask_rows desk kind id leaf buffer) (lit< tt, (lit< tt, (lit< tt, (lit< tt, (lit< tt, (lit< tt, tt)))))) q
     (asked-refused (ask_checked desk kind id leaf buffer) (position_of desk id) q h))
 
-pub same-refusal : (p q : Refusal) → outcome.Refused p ≡ outcome.Refused q → p ≡ q
+pub same-refusal : (p q : Refusal) → Err p ≡ Err q → p ≡ q
 same-refusal p q h = cc
 
-pub finish-refused : (f : Finished) (q : Refusal) → finished_outcome f ≡ outcome.Refused q → f ≡ finished.Refused q
-finish-refused finished.Record q h = let z : ◌≡◌ {A = ℕ} 0 1 = cc in absurd (omega arith)
-finish-refused finished.Never q h = let z : ◌≡◌ {A = ℕ} 0 1 = cc in absurd (omega arith)
-finish-refused finished.Done q h = let z : ◌≡◌ {A = ℕ} 0 1 = cc in absurd (omega arith)
-finish-refused (finished.Refused r) q h = ap finished.Refused (same-refusal r q h)
+pub finish-refused : (f : Result Finished Refusal) (q : Refusal) → finished_outcome f ≡ Err q → f ≡ Err q
+finish-refused (Ok finished.Record) q h = let z : ◌≡◌ {A = ℕ} 0 1 = cc in absurd (omega arith)
+finish-refused (Ok finished.Never) q h = let z : ◌≡◌ {A = ℕ} 0 1 = cc in absurd (omega arith)
+finish-refused (Ok finished.Done) q h = let z : ◌≡◌ {A = ℕ} 0 1 = cc in absurd (omega arith)
+finish-refused (Err r) q h = ap Err (same-refusal r q h)
 
 -- ---- one request
 
@@ -109,7 +108,7 @@ Plain (answered.Asked p f) kind held buffer now = Accepted f → (f ≡ plain_an
 pub record RequestIs (b : Start) (table : Table) (kind : Kind) (id : ℕ) (buffer : List ℕ) (a : Answered) (desk tree now : List ℕ) : Type 0 where
   pub stands : Stands b (table_by a kind id buffer table) desk tree
   pub plain : Plain a kind (table id) buffer now
-  pub not_forged : outcome_of a ≢ outcome.Refused Forged
+  pub not_forged : outcome_of a ≢ Err Forged
 
 module _ (b : Start) (byte : b.room < 256) (table : Table) (kind : Kind) (id x : ℕ) (path buffer : List ℕ) where
   abbrev Is : RequestResult → Type 0

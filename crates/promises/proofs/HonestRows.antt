@@ -1,4 +1,6 @@
 -- Rows of the verdict book over a server that returns what was last written: they are the plain table's own rows, and leave the table. Assumes nothing.
+use Rattle.std.specs.Prelude.{Err, Ok, Result}
+use Rattle.sizes.specs.declared.Refusal.{Refusal}
 use Prim.Native.Nat.{ℕ, suc, ◌+◌, ◌-◌, ◌<◌, ◌≤◌}
 use mathlib.Core.Path.{◌≡◌, refl, sym, ap, ap₂, ◌∙◌}
 use mathlib.Core.Logic.{◌≢◌}
@@ -8,8 +10,6 @@ use native.Mathlib.Omega.{arith}
 use lib.ListN.{length}
 use Rattle.words.specs.Bytes.{zeros}
 use Rattle.sizes.specs.declared.Refusal.TheVariants.{Forged}
-use Rattle.sizes.specs.declared.Outcome.{Outcome}
-use Rattle.sizes.specs.declared.Outcome.TheVariants as outcome
 use Rattle.sizes.specs.Sizes.{record_len, path_len}
 use Rattle.desk.specs.Readers.{sizes_of}
 use Rattle.items.specs.Real.{real}
@@ -80,16 +80,16 @@ module _ (b : Start) (byte : b.room < 256) (ts : TreeState) (reached : TreeReach
       run_is b byte ts.state.table chapter (end - first) first (length draws) first draws no_counts ts.state.desk ts.tree
       (zeros (path_len (sizes_of ts.state.desk))) (zeros record_len) 0 (here b ts reached) (omega arith) refl (omega arith)
 
-  by-outcome : (o : Outcome) → LeavesTable b ts (row_by o ts.state.desk ts.tree chapter first end draws)
-  by-outcome (outcome.Refused q) = record { after = ts; reached = reached; desk_is = refl; tree_is = refl; table_is = λ u. refl }
-  by-outcome outcome.Done =
+  by-outcome : (o : Result Unit Refusal) → LeavesTable b ts (row_by o ts.state.desk ts.tree chapter first end draws)
+  by-outcome (Err q) = record { after = ts; reached = reached; desk_is = refl; tree_is = refl; table_is = λ u. refl }
+  by-outcome (Ok tt) =
       let s = run.stands in
       record { after = s.at; reached = s.reached; desk_is = s.desk_is; tree_is = s.tree_is; table_is = s.table_is }
 
-  forged-not : (o : Outcome) → row_checked ts.state.desk ts.tree first end draws ≡ o
+  forged-not : (o : Result Unit Refusal) → row_checked ts.state.desk ts.tree first end draws ≡ o
       → (row_by o ts.state.desk ts.tree chapter first end draws).answer ≢ Refused Forged
-  forged-not (outcome.Refused q) e h = row_low ts.state.desk ts.tree first end draws q e (let k : q ≡ Forged = cc in k)
-  forged-not outcome.Done e h = run.not_forged h
+  forged-not (Err q) e h = row_low ts.state.desk ts.tree first end draws q e (let k : q ≡ Forged = cc in k)
+  forged-not (Ok tt) e h = run.not_forged h
 
   module _ (c : Counts) (complete : Bool) (h : (row_in ts chapter first end draws).answer ≡ Counted c complete) where
     counts-table : CountsTable ts chapter first end c complete

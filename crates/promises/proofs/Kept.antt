@@ -1,4 +1,6 @@
 -- What stands gives what demand 2 asks of a state, over any paths that agree with the server. Assumes nothing but what is asked of digest and cipher.
+use Rattle.sizes.specs.declared.Refusal.{Refusal}
+use Rattle.std.specs.Prelude.{Ok, Err, Result}
 use Prim.Native.Nat.{ℕ, suc, ◌+◌, ◌-◌, ◌<◌, ◌≤◌}
 use mathlib.Core.Path.{◌≡◌, refl, sym, ap, ap₂, subst, ◌∙◌}
 use mathlib.Core.Logic.{◌≢◌, ◌↔◌}
@@ -10,7 +12,6 @@ use lib.ListN.{length, get_or, drop}
 use lib.Dec.{eqb}
 use Rattle.sizes.specs.declared.Sizes.{Sizes}
 use Rattle.sizes.specs.declared.Refusal.TheVariants.{Forged, Full}
-use Rattle.sizes.specs.declared.Outcome.TheVariants.{Done}
 use Rattle.sizes.specs.Sizes.{record_len, count_len, item_of}
 use Rattle.bags.specs.Bags.{those}
 use Rattle.slots.specs.Slots.{Block}
@@ -82,21 +83,21 @@ module _ (m : Means) (o : Sound m) (b : Start) (byte : b.room < 256) (st : State
   -- ---- a path that agrees
 
   module _ (path buffer : List ℕ) (fair : Agrees (view_of desk) st.server path) where
-    abbrev answer : Finished
+    abbrev answer : Result Finished Refusal
     answer = (finish_of m desk path buffer).answer
 
     genuine-is : status_of desk ≡ open_status → Genuine m desk path
     genuine-is s = agrees-genuine m desk path st.server st.table v.inv (asks_of desk v.good s) fair
 
-    not_forged : answer ≢ finished.Refused Forged
+    not_forged : answer ≢ Err Forged
     not_forged h =
         let c = finished-refused (finish_checked m desk path buffer) (kind_asked desk) (was_marked m desk path) Forged h in
         let r = late-ready m desk path buffer Forged (omega arith) c in
         ((exactly m).forged desk path buffer r).0 h (genuine-is r.status)
 
-    full_is : Ready desk path buffer → (answer ≡ finished.Refused Full) ↔ ((WornOut m desk path → ⊥) × (b.room < length (new_stash m desk path)))
+    full_is : Ready desk path buffer → (answer ≡ Err Full) ↔ ((WornOut m desk path → ⊥) × (b.room < length (new_stash m desk path)))
     full_is r =
-        subst (λ (x : ℕ). (answer ≡ finished.Refused Full) ↔ ((WornOut m desk path → ⊥) × (x < length (new_stash m desk path)))) v.room
+        subst (λ (x : ℕ). (answer ≡ Err Full) ↔ ((WornOut m desk path → ⊥) × (x < length (new_stash m desk path)))) v.room
         ((exactly m).full desk path buffer r (genuine-is r.status))
 
     else_is : Ready desk path buffer → (WornOut m desk path → ⊥) → length (new_stash m desk path) ≤ b.room → Accepted answer
@@ -105,7 +106,7 @@ module _ (m : Means) (o : Sound m) (b : Start) (byte : b.room < 256) (st : State
     -- ---- accepted
 
     module _ (a : Accepted answer) where
-      is-done : finish_checked m desk path buffer ≡ Done
+      is-done : finish_checked m desk path buffer ≡ Ok tt
       is-done = finished-done (finish_checked m desk path buffer) _ a
 
       through : Through m desk path buffer
@@ -206,7 +207,7 @@ module _ (m : Means) (o : Sound m) (b : Start) (byte : b.room < 256) (st : State
         stash_room = room-is;
       }
     where
-      forged_open : (path buffer : List ℕ) → (finish_of m desk path buffer).answer ≡ finished.Refused Forged → status_of desk ≡ open_status
+      forged_open : (path buffer : List ℕ) → (finish_of m desk path buffer).answer ≡ Err Forged → status_of desk ≡ open_status
       forged_open path buffer h =
           (late-ready m desk path buffer Forged (omega arith) (finished-refused (finish_checked m desk path buffer) (kind_asked desk) (was_marked m desk path) Forged h)).status
 

@@ -1,8 +1,8 @@
 -- One more event: what it gets to is reached. Assumes nothing.
+use Rattle.std.specs.Prelude.{Ok}
 use mathlib.Core.Path.{◌≡◌, refl, sym, ap, subst, ◌∙◌}
 use mathlib.Core.List.{List, [], ◌∷◌, ◌++◌}
 use Prim.Native.Nat.{ℕ}
-use Rattle.sizes.specs.declared.Outcome.TheVariants.{Done}
 use Rattle.sizes.specs.declared.Sizes.{Sizes}
 use Rattle.promises.specs.Stores.{Store, Start, format_for}
 use Rattle.promises.specs.Steps.{State, begin, Event, after, run, Hands, Fair, AllFair, Reached}
@@ -17,7 +17,7 @@ module _ (store : Store) (s : Sizes) (hands : Hands) where
   fair-more st (x ∷ es) e f g = (f.0, fair-more (after store s st x) es e f.1 g)
 
 module _ (store : Store) (b : Start) (hands : Hands) where
-  pub reached-begin : (lent : List ℕ) → (format_for b lent).answer ≡ Done → Reached store b hands (begin b lent)
+  pub reached-begin : (lent : List ℕ) → (format_for b lent).answer ≡ Ok tt → Reached store b hands (begin b lent)
   reached-begin lent f = record { lent = lent; formats = f; events = []; fair = tt; here = refl }
 
   pub reached-more : (st : State) → Reached store b hands st → (e : Event) → Fair hands store st e → Reached store b hands (after store b.sizes st e)

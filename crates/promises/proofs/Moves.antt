@@ -1,4 +1,5 @@
 -- A request that is accepted, whatever path came back, sets exactly its id's position, to the draw. Assumes nothing but what is asked of digest and cipher.
+use Rattle.std.specs.Prelude.{Ok}
 use Prim.Native.Nat.{ℕ, pred, ◌+◌, ◌<◌, ◌≤◌}
 use mathlib.Core.Path.{◌≡◌, refl, sym, ap, ◌∙◌}
 use mathlib.Core.Bool.{cond}
@@ -15,7 +16,6 @@ use Rattle.desk.proofs.Changed.{same-ids, same_room}
 use Rattle.items.specs.Items.{Means, Sound}
 use Rattle.draws.specs.Draws.{from}
 use Rattle.draws.proofs.Numbers.{length_from, get_d_map, get_d-from}
-use Rattle.asks.specs.declared.Asked.TheVariants as asked
 use Rattle.asks.specs.Ask.{ask_of}
 use Rattle.asks.proofs.Opened.{opened-changed, opened-id, opened-leaf}
 use Rattle.keeping.proofs.Carry.{same-position}
@@ -43,7 +43,7 @@ pub record Moved (n : ℕ) (desk : List ℕ) (u x : ℕ) (new : List ℕ) : Type
   pub now : positions n new ≡ set (positions n desk) (pred u) x
 
 module _ (m : Means) (o : Sound m) (n : ℕ) (desk : List ℕ) (u x p : ℕ) (e : Around) (q : ids_of desk ≡ n) (byte : room_of desk < 256)
-    (h : (ask_of desk e.kind u x e.content).answer ≡ asked.Leaf p) (a : Accepted (finish_then (ours m) desk u x e).answer) where
+    (h : (ask_of desk e.kind u x e.content).answer ≡ Ok p) (a : Accepted (finish_then (ours m) desk u x e).answer) where
   abbrev old : List ℕ
   old = asked_desk (ours m) desk u x e
 

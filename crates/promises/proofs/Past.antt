@@ -1,4 +1,5 @@
 -- What is known of a desk and a path where finish got past its first four rows. Assumes nothing.
+use Rattle.std.specs.Prelude.{Err, Ok}
 use Prim.Native.Nat.{ℕ, ◌≤◌}
 use mathlib.Core.Path.{◌≡◌, refl, ap}
 use mathlib.Core.Bool.{Bool, true, false, not, ◌&&◌}
@@ -10,7 +11,6 @@ use borrow.Author.Tests.{eqb-true, eqb-false, leb-false, ltb-false, not-false}
 use Rattle.words.proofs.Tests.{and_left, and_right}
 use Rattle.sizes.specs.declared.Refusal.{Refusal}
 use Rattle.sizes.specs.declared.Refusal.TheVariants.{BadDesk, Stopped, NotOpen, BadLength, Forged, Worn, Full}
-use Rattle.sizes.specs.declared.Outcome.TheVariants.{Done, Refused}
 use Rattle.sizes.specs.Sizes.{record_len, path_len}
 use Rattle.sizes.specs.Refusals.{number_of, first_of, NoneOf}
 use Rattle.sizes.proofs.Rows.{none-applies}
@@ -26,12 +26,12 @@ use Rattle.store.specs.Finish.{finish_rows, finish_checked}
 use Rattle.keeping.proofs.MovedStep.{Checked}
 use Rattle.promises.specs.DemandTwo.{Ready}
 
-same_number : (p q : Refusal) → Refused p ≡ Refused q → number_of p ≡ number_of q
+same_number : (p q : Refusal) → Err p ≡ Err q → number_of p ≡ number_of q
 same_number p q e = let f : p ≡ q = cc in ap number_of f
 
 -- a refusal of number 9 or more comes after these four
 late : (a b c d : Bool) (rows : List (Bool × Refusal)) (q : Refusal) → 9 ≤ number_of q
-    → first_of ((a, BadDesk) ∷ (b, Stopped) ∷ (c, NotOpen) ∷ (d, BadLength) ∷ rows) ≡ Refused q → (a ≡ false) × (b ≡ false) × (c ≡ false) × (d ≡ false)
+    → first_of ((a, BadDesk) ∷ (b, Stopped) ∷ (c, NotOpen) ∷ (d, BadLength) ∷ rows) ≡ Err q → (a ≡ false) × (b ≡ false) × (c ≡ false) × (d ≡ false)
 late true b c d rows q n h = absurd (omega (arith, same_number BadDesk q h))
 late false true c d rows q n h = absurd (omega (arith, same_number Stopped q h))
 late false false true d rows q n h = absurd (omega (arith, same_number NotOpen q h))
@@ -52,7 +52,7 @@ module _ (m : Means) (desk path buffer : List ℕ) where
         buffer_length = eqb-true _ _ (and_right (eqb (length path) (path_len (sizes_of desk))) (eqb (length buffer) record_len) e);
       }
 
-  pub late-ready : (q : Refusal) → 9 ≤ number_of q → finish_checked m desk path buffer ≡ Refused q → Ready desk path buffer
+  pub late-ready : (q : Refusal) → 9 ≤ number_of q → finish_checked m desk path buffer ≡ Err q → Ready desk path buffer
   unfolding finish_checked
   late-ready q n h =
       let l = late (not (good_desk desk)) (leb first_stopped (status_of desk)) (eqb (status_of desk) ready_status) (not lengths)
@@ -76,7 +76,7 @@ module _ (m : Means) (desk path buffer : List ℕ) where
         genuine = genuine-checks m desk path t.genuine-is;
       }
 
-  pub done-through : finish_checked m desk path buffer ≡ Done → Through
+  pub done-through : finish_checked m desk path buffer ≡ Ok tt → Through
   unfolding finish_checked
   done-through h =
       let n : NoneOf (finish_rows m desk path buffer) = none-applies (finish_rows m desk path buffer) h in

@@ -1,5 +1,6 @@
 -- One request of any kind at a ready desk over a server that returns what was last written: its ask is accepted; its finish is accepted, and leaves a ready
 -- desk, or is Worn, or is Full, which a stash with room for every id never is. Assumes nothing.
+use Rattle.std.specs.Prelude.{Err, Result, Ok}
 use Prim.Native.Nat.{ℕ, ◌<◌, ◌≤◌}
 use mathlib.Core.Path.{◌≡◌, refl, sym, ap, subst, ◌∙◌}
 use mathlib.Core.Logic.{◌≢◌, ◌⊎◌, inl, inr, ⊎_elim}
@@ -12,8 +13,6 @@ use borrow.Author.Tests.{eq-eqb}
 use Rattle.sizes.specs.declared.Sizes.{Sizes}
 use Rattle.sizes.specs.declared.Refusal.{Refusal}
 use Rattle.sizes.specs.declared.Refusal.TheVariants.{Forged, Worn, Full}
-use Rattle.sizes.specs.declared.Outcome.{Outcome}
-use Rattle.sizes.specs.declared.Outcome.TheVariants as outcome
 use Rattle.sizes.specs.Sizes.{record_len, leaves, path_len}
 use Rattle.sizes.specs.Refusals.{first_of, kept_or}
 use Rattle.sizes.proofs.Rows.{not-refused}
@@ -26,7 +25,6 @@ use Rattle.items.specs.Items.{Means}
 use Rattle.items.specs.Real.{real}
 use Rattle.items.proofs.Sound.{real-sound}
 use Rattle.opening.specs.Opening.{view_of, genuine, worn}
-use Rattle.asks.specs.declared.Asked.TheVariants as asked
 use Rattle.asks.specs.Ask.{record_fits, ask_of}
 use Rattle.store.specs.declared.Finished.TheVariants as finished
 use Rattle.store.specs.Steps.{new_stash, new_path, was_marked}
@@ -47,13 +45,13 @@ use Rattle.promises.proofs.Room.{left-few}
 
 -- ---- past the rows of desk and buffers, a refusal that is not Forged is Worn or Full
 
-path-refusal : (g w u : Bool) (q : Refusal) → q ≢ Forged → first_of ((g, Forged) ∷ (w, Worn) ∷ (u, Full) ∷ []) ≡ outcome.Refused q → (q ≡ Worn) ⊎ (q ≡ Full)
+path-refusal : (g w u : Bool) (q : Refusal) → q ≢ Forged → first_of ((g, Forged) ∷ (w, Worn) ∷ (u, Full) ∷ []) ≡ Err q → (q ≡ Worn) ⊎ (q ≡ Full)
 path-refusal true w u q n h = absurd (n cc)
 path-refusal false true u q n h = inl cc
 path-refusal false false true q n h = inr cc
 path-refusal false false false q n h = absurd (not-refused q (sym h))
 
-late-only : (m : Means) (desk path buffer : List ℕ) → Ready desk path buffer → (q : Refusal) → q ≢ Forged → finish_checked m desk path buffer ≡ outcome.Refused q
+late-only : (m : Means) (desk path buffer : List ℕ) → Ready desk path buffer → (q : Refusal) → q ≢ Forged → finish_checked m desk path buffer ≡ Err q
     → (q ≡ Worn) ⊎ (q ≡ Full)
 unfolding finish_checked
 late-only m desk path buffer r q n h =
@@ -83,7 +81,7 @@ module _ (b : Start) (byte : b.room < 256) (ts : TreeState) (reached : TreeReach
   abbrev p : ℕ
   p = ts.state.drawn id
 
-  pub asks : (ask_of ts.state.desk kind id x buffer).answer ≡ asked.Leaf p
+  pub asks : (ask_of ts.state.desk kind id x buffer).answer ≡ Ok p
   asks = (demand-two-tree real real-sound b byte ts reached).kept.takes r.ready (as_request kind id x buffer) r.low r.high r.leaf
       (record-fits kind buffer r.buffer_length)
 
@@ -133,15 +131,15 @@ module _ (b : Start) (byte : b.room < 256) (ts : TreeState) (reached : TreeReach
       }
 
   -- refused
-  pub ends : (q : Refusal) → fin.answer ≡ finished.Refused q → Ends b q
+  pub ends : (q : Refusal) → fin.answer ≡ Err q → Ends b q
   ends q e =
       ⊎_elim inl (λ u. inr (u, few u))
-      (late-only real d got buffer ready-now q (λ g. one_kept.never_forged got buffer handed (e ∙ ap finished.Refused g))
+      (late-only real d got buffer ready-now q (λ g. one_kept.never_forged got buffer handed (e ∙ ap Err g))
       (finished-refused (finish_checked real d got buffer) (kind_asked d) (was_marked real d got) q e))
     where
       few : q ≡ Full → b.room < b.ids
       few u =
-          let w = ((one_kept.full got buffer handed ready-now).0 (e ∙ ap finished.Refused u)).1 in
+          let w = ((one_kept.full got buffer handed ready-now).0 (e ∙ ap Err u)).1 in
           let v = left-few real real-sound b byte one.state both.stands open-now got fair in
           omega arith
 
@@ -154,7 +152,7 @@ module _ (b : Start) (byte : b.room < 256) (ts : TreeState) (reached : TreeReach
     path-again =
         let c = finished-done (finish_checked real d got buffer) _ a in
         let t = through-of real real-sound b byte one.state both.stands got buffer a in
-        ap (λ (o : Outcome). length (kept_or o got (new_path real d got))) c ∙ path_size real real-sound b byte one.state both.stands got buffer t fair
+        ap (λ (o : Result Unit Refusal). length (kept_or o got (new_path real d got))) c ∙ path_size real real-sound b byte one.state both.stands got buffer t fair
 
     pub buffer-again : length fin.buffer ≡ record_len
     buffer-again =

@@ -1,5 +1,6 @@
 -- A run of requests over a server that returns what was last written, from a ready desk: a request goes on to a ready desk, or ends the run as Worn, or as
 -- Full, which a stash with room for every id never does. Assumes nothing.
+use Rattle.std.specs.Prelude.{Err, Ok, Result}
 use Prim.Native.Nat.{ℕ, ◌+◌, ◌<◌, ◌≤◌}
 use mathlib.Core.Path.{◌≡◌, refl, sym, ap, subst₂, ◌∙◌}
 use mathlib.Core.Logic.{◌⊎◌, inl, inr, ⊎_elim}
@@ -10,7 +11,6 @@ use Rattle.words.specs.Bytes.{zeros}
 use Rattle.words.proofs.Splice.{length-zeros}
 use Rattle.sizes.specs.declared.Refusal.{Refusal}
 use Rattle.sizes.specs.declared.Refusal.TheVariants.{Worn, Full}
-use Rattle.sizes.specs.declared.Outcome.TheVariants as outcome
 use Rattle.sizes.specs.Sizes.{record_len, leaves, path_len}
 use Rattle.sizes.proofs.Rows.{not-refused}
 use Rattle.desk.specs.declared.Kind.{Kind}
@@ -34,11 +34,11 @@ use Rattle.promises.proofs.HonestRequests.{finish-refused}
 use Rattle.promises.proofs.ReadyRequests as request
 use Rattle.promises.proofs.ReadyRequests.{Fit, Ends}
 
-finish-done : (f : Finished) → finished_outcome f ≡ outcome.Done → Accepted f
-finish-done finished.Record h = accept-record
-finish-done finished.Never h = accept-never
-finish-done finished.Done h = accept-done
-finish-done (finished.Refused q) h = absurd (not-refused q h)
+finish-done : (f : Result Finished Refusal) → finished_outcome f ≡ Ok tt → Accepted f
+finish-done (Ok finished.Record) h = accept-record
+finish-done (Ok finished.Never) h = accept-never
+finish-done (Ok finished.Done) h = accept-done
+finish-done (Err q) h = absurd (not-refused q h)
 
 module _ (b : Start) (byte : b.room < 256) where
   -- where it stands: a ready desk that is reached, and a path of the right length
@@ -52,8 +52,8 @@ module _ (b : Start) (byte : b.room < 256) where
 
   -- a request goes on, or ends the run in one of the ways
   pub record RequestEnds (r : RequestResult) : Type 0 where
-    pub goes : outcome_of r.answer ≡ outcome.Done → Goes r.desk r.tree r.path × (length r.buffer ≡ record_len)
-    pub ends : (q : Refusal) → outcome_of r.answer ≡ outcome.Refused q → Ends b q
+    pub goes : outcome_of r.answer ≡ Ok tt → Goes r.desk r.tree r.path × (length r.buffer ≡ record_len)
+    pub ends : (q : Refusal) → outcome_of r.answer ≡ Err q → Ends b q
 
   module _ (kind : Kind) (id x : ℕ) (path buffer : List ℕ) where
     request-at : (ts : TreeState) → TreeReached (ours real) b ts → Fit b ts path buffer id x → RequestEnds (request_for ts path buffer kind id x)
@@ -104,7 +104,7 @@ module _ (b : Start) (byte : b.room < 256) where
       }
 
   -- the ids of a range that is not refused
-  pub range-high : (ts : TreeState) → TreeReached (ours real) b ts → (first end : ℕ) (draws : List ℕ) → row_checked ts.state.desk ts.tree first end draws ≡ outcome.Done
+  pub range-high : (ts : TreeState) → TreeReached (ours real) b ts → (first end : ℕ) (draws : List ℕ) → row_checked ts.state.desk ts.tree first end draws ≡ Ok tt
       → first + length draws ≤ b.ids + 1
   range-high ts reached first end draws e =
       let w = row-passed e in

@@ -1,53 +1,50 @@
 -- What a whole request's answer says of its ask: a refusal alone is the ask's, and changes nothing. Assumes nothing.
+use Rattle.std.specs.Prelude.{Err, Ok, Result}
 use Prim.Native.Nat.{ℕ}
 use mathlib.Core.Path.{◌≡◌, refl, sym, ap, ◌∙◌}
 use mathlib.Core.List.{List}
 use native.Mathlib.Omega.{arith}
 use Rattle.sizes.specs.declared.Sizes.{Sizes}
 use Rattle.sizes.specs.declared.Refusal.{Refusal}
-use Rattle.sizes.specs.declared.Outcome.{Outcome}
-use Rattle.sizes.specs.declared.Outcome.TheVariants.{Done, Refused}
 use Rattle.desk.specs.declared.Kind.{Kind}
 use Rattle.desk.specs.Readers.{sizes_of}
 use Rattle.items.specs.Real.{real}
 use Rattle.tree.specs.Tree.{fetch_of}
-use Rattle.asks.specs.declared.Asked.{Asked}
-use Rattle.asks.specs.declared.Asked.TheVariants as asked
 use Rattle.asks.specs.Ask.{ask_of}
 use Rattle.store.specs.declared.Finished.{Finished}
 use Rattle.requests.specs.declared.Answered.TheVariants as answered
 use Rattle.requests.specs.Request.{finished_by, asked_for, request_of}
 use Rattle.promises.proofs.One.{demand-one}
 
-asked-not : (o : Outcome) (s : Sizes) (p : ℕ) (desk tree path buffer : List ℕ) (q : Refusal) → (finished_by o s p desk tree path buffer).answer ≡ answered.Refused q → ⊥
-asked-not Done s p desk tree path buffer q h = let z : ◌≡◌ {A = ℕ} 0 1 = cc in omega arith
-asked-not (Refused r) s p desk tree path buffer q h = let z : ◌≡◌ {A = ℕ} 0 1 = cc in omega arith
+asked-not : (o : Result Unit Refusal) (s : Sizes) (p : ℕ) (desk tree path buffer : List ℕ) (q : Refusal) → (finished_by o s p desk tree path buffer).answer ≡ answered.Refused q → ⊥
+asked-not (Ok tt) s p desk tree path buffer q h = let z : ◌≡◌ {A = ℕ} 0 1 = cc in omega arith
+asked-not (Err r) s p desk tree path buffer q h = let z : ◌≡◌ {A = ℕ} 0 1 = cc in omega arith
 
 -- a request that is answered by a refusal alone was refused by its ask; any other was asked
 pub was-refused : (desk tree path buffer : List ℕ) (kind : Kind) (id leaf : ℕ) (q : Refusal)
-    → (request_of desk tree path buffer kind id leaf).answer ≡ answered.Refused q → (ask_of desk kind id leaf buffer).answer ≡ asked.Refused q
+    → (request_of desk tree path buffer kind id leaf).answer ≡ answered.Refused q → (ask_of desk kind id leaf buffer).answer ≡ Err q
 was-refused desk tree path buffer kind id leaf q e = go (ask_of desk kind id leaf buffer).answer refl
   where
-    go : (a : Asked) → (ask_of desk kind id leaf buffer).answer ≡ a → (ask_of desk kind id leaf buffer).answer ≡ asked.Refused q
-    go (asked.Leaf p) h =
+    go : (a : Result ℕ Refusal) → (ask_of desk kind id leaf buffer).answer ≡ a → (ask_of desk kind id leaf buffer).answer ≡ Err q
+    go (Ok p) h =
         let x = (ask_of desk kind id leaf buffer).desk in
         absurd
         (asked-not (fetch_of (sizes_of x) p tree path).answer (sizes_of x) p x tree (fetch_of (sizes_of x) p tree path).path buffer q
-        (sym (ap (λ (a : Asked). (asked_for a x tree path buffer).answer) h) ∙ e))
-    go (asked.Refused r) h =
+        (sym (ap (λ (a : Result ℕ Refusal). (asked_for a x tree path buffer).answer) h) ∙ e))
+    go (Err r) h =
         let w : answered.Refused r ≡ answered.Refused q =
-        sym (ap (λ (a : Asked). (asked_for a (ask_of desk kind id leaf buffer).desk tree path buffer).answer) h) ∙ e in
+        sym (ap (λ (a : Result ℕ Refusal). (asked_for a (ask_of desk kind id leaf buffer).desk tree path buffer).answer) h) ∙ e in
         h ∙ cc
 
-pub was-asked : (desk tree path buffer : List ℕ) (kind : Kind) (id leaf p : ℕ) (f : Finished)
-    → (request_of desk tree path buffer kind id leaf).answer ≡ answered.Asked p f → (x : ℕ) × ((ask_of desk kind id leaf buffer).answer ≡ asked.Leaf x)
+pub was-asked : (desk tree path buffer : List ℕ) (kind : Kind) (id leaf p : ℕ) (f : Result Finished Refusal)
+    → (request_of desk tree path buffer kind id leaf).answer ≡ answered.Asked p f → (x : ℕ) × ((ask_of desk kind id leaf buffer).answer ≡ Ok x)
 was-asked desk tree path buffer kind id leaf p f e = go (ask_of desk kind id leaf buffer).answer refl
   where
-    go : (a : Asked) → (ask_of desk kind id leaf buffer).answer ≡ a → (x : ℕ) × ((ask_of desk kind id leaf buffer).answer ≡ asked.Leaf x)
-    go (asked.Leaf x) h = (x, h)
-    go (asked.Refused q) h =
+    go : (a : Result ℕ Refusal) → (ask_of desk kind id leaf buffer).answer ≡ a → (x : ℕ) × ((ask_of desk kind id leaf buffer).answer ≡ Ok x)
+    go (Ok x) h = (x, h)
+    go (Err q) h =
         let w : answered.Refused q ≡ answered.Asked p f =
-        sym (ap (λ (a : Asked). (asked_for a (ask_of desk kind id leaf buffer).desk tree path buffer).answer) h) ∙ e in
+        sym (ap (λ (a : Result ℕ Refusal). (asked_for a (ask_of desk kind id leaf buffer).desk tree path buffer).answer) h) ∙ e in
         let z : ◌≡◌ {A = ℕ} 0 1 = cc in
         absurd (omega arith)
 
@@ -57,8 +54,8 @@ pub refuses : (desk tree path buffer : List ℕ) (kind : Kind) (id leaf : ℕ) (
 refuses desk tree path buffer kind id leaf q e =
     let h = was-refused desk tree path buffer kind id leaf q e in
     let x = (ask_of desk kind id leaf buffer).desk in (
-      ap (λ (a : Asked). (asked_for a x tree path buffer).desk) h ∙ (demand-one real).ask_refuses desk kind id leaf buffer q h,
-      ap (λ (a : Asked). (asked_for a x tree path buffer).tree) h,
-      ap (λ (a : Asked). (asked_for a x tree path buffer).path) h,
-      ap (λ (a : Asked). (asked_for a x tree path buffer).buffer) h,
+      ap (λ (a : Result ℕ Refusal). (asked_for a x tree path buffer).desk) h ∙ (demand-one real).ask_refuses desk kind id leaf buffer q h,
+      ap (λ (a : Result ℕ Refusal). (asked_for a x tree path buffer).tree) h,
+      ap (λ (a : Result ℕ Refusal). (asked_for a x tree path buffer).path) h,
+      ap (λ (a : Result ℕ Refusal). (asked_for a x tree path buffer).buffer) h,
     )

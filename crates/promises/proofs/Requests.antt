@@ -1,4 +1,6 @@
 -- One whole request is two turns, in every state that a formatted desk and a tree get to. Assumes nothing.
+use Rattle.std.specs.Prelude.{Err, Ok, Result}
+use Rattle.sizes.specs.declared.Refusal.{Refusal}
 use Prim.Native.Nat.{ℕ, ◌<◌}
 use mathlib.Core.Path.{◌≡◌, refl, sym, ap, ap₂, subst, ◌∙◌}
 use mathlib.Core.Logic.{◌≢◌}
@@ -11,8 +13,6 @@ use borrow.Author.Tests.{eqb-true, eqb-false, eq-eqb, ne_eqb, lt-leb}
 use Rattle.words.proofs.Tests.{by_cases}
 use Rattle.sizes.specs.declared.Sizes.{Sizes}
 use Rattle.sizes.specs.declared.Refusal.TheVariants.{BadLength, Forged}
-use Rattle.sizes.specs.declared.Outcome.{Outcome}
-use Rattle.sizes.specs.declared.Outcome.TheVariants.{Done, Refused}
 use Rattle.sizes.specs.Sizes.{leaves, path_len, tree_len}
 use Rattle.sizes.proofs.Lengths.{range-sizes}
 use Rattle.desk.specs.declared.Kind.{Kind}
@@ -21,8 +21,6 @@ use Rattle.desk.specs.Status.{open_status}
 use Rattle.items.specs.Real.{real}
 use Rattle.items.proofs.Sound.{real-sound}
 use Rattle.tree.specs.Tree.{tree_checked, fetch_of, put_of}
-use Rattle.asks.specs.declared.Asked.{Asked}
-use Rattle.asks.specs.declared.Asked.TheVariants as asked
 use Rattle.asks.specs.Ask.{ask_of}
 use Rattle.asks.proofs.Opened.{opened-changed}
 use Rattle.store.specs.declared.Finished.{Finished}
@@ -60,22 +58,22 @@ module _ (store : Store) (b : Start) where
 
 -- ---- finish and put, as the state and the request have them
 
-after-desk : (s : Sizes) (st : State) (a : Finished) (f : FinishResult) → (after_finish s st a f).desk ≡ f.desk
-after-desk s st finished.Record f = refl
-after-desk s st finished.Never f = refl
-after-desk s st finished.Done f = refl
-after-desk s st (finished.Refused q) f = refl
+after-desk : (s : Sizes) (st : State) (a : Result Finished Refusal) (f : FinishResult) → (after_finish s st a f).desk ≡ f.desk
+after-desk s st (Ok finished.Record) f = refl
+after-desk s st (Ok finished.Never) f = refl
+after-desk s st (Ok finished.Done) f = refl
+after-desk s st (Err q) f = refl
 
-same-put : (a : Finished) (tree new : List ℕ) → put_unless (is_refused a) tree new ≡ put_if a new tree
-same-put finished.Record tree new = refl
-same-put finished.Never tree new = refl
-same-put finished.Done tree new = refl
-same-put (finished.Refused q) tree new = refl
+same-put : (a : Result Finished Refusal) (tree new : List ℕ) → put_unless (is_refused a) tree new ≡ put_if a new tree
+same-put (Ok finished.Record) tree new = refl
+same-put (Ok finished.Never) tree new = refl
+same-put (Ok finished.Done) tree new = refl
+same-put (Err q) tree new = refl
 
 -- ---- a request whose ask answers leaf p, in a reached state
 
 module _ (b : Start) (byte : b.room < 256) (ts : TreeState) (reached : TreeReached (ours real) b ts) (path buffer : List ℕ) (kind : Kind) (id leaf p : ℕ)
-    (h : (ask_of ts.state.desk kind id leaf buffer).answer ≡ asked.Leaf p) where
+    (h : (ask_of ts.state.desk kind id leaf buffer).answer ≡ Ok p) where
   abbrev s : Sizes
   s = b.sizes
 
@@ -87,10 +85,10 @@ module _ (b : Start) (byte : b.room < 256) (ts : TreeState) (reached : TreeReach
 
   -- the state after the ask
   abbrev pub one : TreeState
-  one = record { state = after_ask ts.state req (asked.Leaf p) d; tree = ts.tree }
+  one = record { state = after_ask ts.state req (Ok p) d; tree = ts.tree }
 
   pub one-is : turn (ours real) s ts (asking req) ≡ one
-  one-is = ap (λ (a : Asked). record { state = after_ask ts.state req a d; tree = ts.tree }) h
+  one-is = ap (λ (a : Result ℕ Refusal). record { state = after_ask ts.state req a d; tree = ts.tree }) h
 
   one-reached : TreeReached (ours real) b one
   one-reached = subst (λ (x : TreeState). TreeReached (ours real) b x) one-is (reached-turn (ours real) b ts reached (asking req))
@@ -116,13 +114,13 @@ module _ (b : Start) (byte : b.room < 256) (ts : TreeState) (reached : TreeReach
   f = finish_of real d got buffer
 
   -- fetch and finish, by the length of the lent path
-  fetch-done : length path ≡ path_len s → tree_checked s p ts.tree path ≡ Done
+  fetch-done : length path ≡ path_len s → tree_checked s p ts.tree path ≡ Ok tt
   fetch-done l =
       fits-checked s p ts.tree path
       (record { range = range real real-sound b byte one both; leaf_low = low; tree_length = kept.size; path_length = l })
 
   module _ (n : length path ≢ path_len s) where
-    fetch-short : tree_checked s p ts.tree path ≡ Refused BadLength
+    fetch-short : tree_checked s p ts.tree path ≡ Err BadLength
     unfolding tree_checked
     fetch-short =
         rw (
@@ -133,7 +131,7 @@ module _ (b : Start) (byte : b.room < 256) (ts : TreeState) (reached : TreeReach
           ne_eqb (length path) (path_len s) n,
         )
 
-    finish-short : finish_checked real d path buffer ≡ Refused BadLength
+    finish-short : finish_checked real d path buffer ≡ Err BadLength
     unfolding finish_checked
     finish-short =
         let e : eqb (length path) (path_len (sizes_of d)) ≡ false =
@@ -143,30 +141,30 @@ module _ (b : Start) (byte : b.room < 256) (ts : TreeState) (reached : TreeReach
     got-short : got ≡ path
     got-short = rw fetch-short refl
 
-    short-is : f ≡ finish_by (Refused BadLength) real d path buffer
-    short-is = ap (λ (x : List ℕ). finish_of real d x buffer) got-short ∙ ap (λ (c : Outcome). finish_by c real d path buffer) finish-short
+    short-is : f ≡ finish_by (Err BadLength) real d path buffer
+    short-is = ap (λ (x : List ℕ). finish_of real d x buffer) got-short ∙ ap (λ (c : Result Unit Refusal). finish_by c real d path buffer) finish-short
 
   -- the request is the finish over what was fetched, and put
   pub request-is : request_for ts path buffer kind id leaf ≡ returned s p ts.tree f
   request-is =
-      ap (λ (a : Asked). asked_for a d ts.tree path buffer) h
+      ap (λ (a : Result ℕ Refusal). asked_for a d ts.tree path buffer) h
       ∙ ap (λ (z : Sizes). fetched_for z p d ts.tree path buffer) kept.kept.sizes
       ∙ by_cases (eqb (length path) (path_len s))
-      (λ e. ap (λ (c : Outcome). finished_by c s p d ts.tree got buffer) (fetch-done (eqb-true _ _ e)))
+      (λ e. ap (λ (c : Result Unit Refusal). finished_by c s p d ts.tree got buffer) (fetch-done (eqb-true _ _ e)))
       (λ e.
       let n = eqb-false (length path) (path_len s) e in
-      ap₂ (λ (c : Outcome) (x : List ℕ). finished_by c s p d ts.tree x buffer) (fetch-short n) (got-short n)
+      ap₂ (λ (c : Result Unit Refusal) (x : List ℕ). finished_by c s p d ts.tree x buffer) (fetch-short n) (got-short n)
       ∙ sym (ap (returned s p ts.tree) (short-is n)))
 
   -- a path that was fetched, or one that finish refuses
   handed : (length path ≢ path_len s → ⊥) → fetched_by b one got
   handed n = (path, by_cases (eqb (length path) (path_len s)) (eqb-true (length path) (path_len s)) (λ e. absurd (n (eqb-false (length path) (path_len s) e))), refl)
 
-  table-after : (a : Finished) → (after_finish s one.state a f).table ≡ table_as a kind id buffer ts.state.table
-  table-after finished.Record = refl
-  table-after finished.Never = refl
-  table-after finished.Done = refl
-  table-after (finished.Refused q) = refl
+  table-after : (a : Result Finished Refusal) → (after_finish s one.state a f).table ≡ table_as a kind id buffer ts.state.table
+  table-after (Ok finished.Record) = refl
+  table-after (Ok finished.Never) = refl
+  table-after (Ok finished.Done) = refl
+  table-after (Err q) = refl
 
   pub as_turns : AsTurns b ts path buffer kind id leaf p f.answer
   as_turns =
@@ -191,29 +189,29 @@ module _ (b : Start) (byte : b.room < 256) (ts : TreeState) (reached : TreeReach
         table = ap (λ (x : TreeState). x.state.table) two ∙ table-after f.answer;
       }
     where
-      forged : length path ≢ path_len s → f.answer ≡ finished.Refused Forged → ⊥
+      forged : length path ≢ path_len s → f.answer ≡ Err Forged → ⊥
       forged n e =
-          let k : finished.Refused BadLength ≡ finished.Refused Forged = sym (ap (λ (x : FinishResult). x.answer) (short-is n)) ∙ e in
+          let k : Err BadLength ≡ Err Forged = sym (ap (λ (x : FinishResult). x.answer) (short-is n)) ∙ e in
           let z : ◌≡◌ {A = ℕ} 0 1 = cc in
           omega arith
 
 -- ---- all of it
 
-asked-only : (b : Start) (byte : b.room < 256) (ts : TreeState) → TreeReached (ours real) b ts → (path buffer : List ℕ) (kind : Kind) (id leaf p : ℕ) (g : Finished)
+asked-only : (b : Start) (byte : b.room < 256) (ts : TreeState) → TreeReached (ours real) b ts → (path buffer : List ℕ) (kind : Kind) (id leaf p : ℕ) (g : Result Finished Refusal)
     → (request_for ts path buffer kind id leaf).answer ≡ answered.Asked p g → AsTurns b ts path buffer kind id leaf p g
 asked-only b byte ts r path buffer kind id leaf p g e = go (ask_of ts.state.desk kind id leaf buffer).answer refl
   where
-    go : (a : Asked) → (ask_of ts.state.desk kind id leaf buffer).answer ≡ a → AsTurns b ts path buffer kind id leaf p g
-    go (asked.Leaf p') h =
+    go : (a : Result ℕ Refusal) → (ask_of ts.state.desk kind id leaf buffer).answer ≡ a → AsTurns b ts path buffer kind id leaf p g
+    go (Ok p') h =
         let w : answered.Asked p' (f b byte ts r path buffer kind id leaf p' h).answer ≡ answered.Asked p g =
         sym (ap (λ (x : RequestResult). x.answer) (request-is b byte ts r path buffer kind id leaf p' h)) ∙ e in
         let i : p' ≡ p = cc in
         let j : (f b byte ts r path buffer kind id leaf p' h).answer ≡ g = cc in
         subst (λ (x : ℕ). AsTurns b ts path buffer kind id leaf x g) i
-        (subst (λ (x : Finished). AsTurns b ts path buffer kind id leaf p' x) j (as_turns b byte ts r path buffer kind id leaf p' h))
-    go (asked.Refused q) h =
+        (subst (λ (x : Result Finished Refusal). AsTurns b ts path buffer kind id leaf p' x) j (as_turns b byte ts r path buffer kind id leaf p' h))
+    go (Err q) h =
         let w : answered.Refused q ≡ answered.Asked p g =
-        sym (ap (λ (a : Asked). (asked_for a (ask_of ts.state.desk kind id leaf buffer).desk ts.tree path buffer).answer) h) ∙ e in
+        sym (ap (λ (a : Result ℕ Refusal). (asked_for a (ask_of ts.state.desk kind id leaf buffer).desk ts.tree path buffer).answer) h) ∙ e in
         let z : ◌≡◌ {A = ℕ} 0 1 = cc in
         absurd (omega arith)
 

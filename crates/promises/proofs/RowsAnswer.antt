@@ -1,5 +1,6 @@
 -- Rows over a server that returns what was last written, from a ready desk, with leaves drawn: once its own checks are passed a row is counted, or ends as a
 -- run of requests does. Assumes nothing.
+use Rattle.std.specs.Prelude.{Err, Ok, Result}
 use Prim.Native.Nat.{ℕ, suc, ◌+◌, ◌-◌, ◌<◌, ◌≤◌}
 use mathlib.Core.Path.{◌≡◌, refl, sym, ap, ◌∙◌}
 use mathlib.Core.List.{List, [], ◌∷◌}
@@ -8,8 +9,6 @@ use lib.ListN.{length}
 use Rattle.words.specs.Bytes.{zeros}
 use Rattle.words.proofs.Splice.{length-zeros}
 use Rattle.sizes.specs.declared.Refusal.{Refusal}
-use Rattle.sizes.specs.declared.Outcome.{Outcome}
-use Rattle.sizes.specs.declared.Outcome.TheVariants as outcome
 use Rattle.sizes.specs.Sizes.{record_len, leaves, path_len}
 use Rattle.desk.specs.declared.Kind.TheVariants.{Read}
 use Rattle.desk.specs.Readers.{sizes_of}
@@ -37,16 +36,16 @@ use Rattle.promises.proofs.ReadyRuns.{Goes, request-ends, begins, range-high}
 
 -- ---- one read is a request
 
-found-done : (chapter : ℕ) (now : List ℕ) (cell : Cell) (a : Answered) → found_by chapter a now ≡ found.Cell cell → outcome_of a ≡ outcome.Done
-found-done chapter now cell (answered.Asked leaf finished.Record) h = refl
-found-done chapter now cell (answered.Asked leaf finished.Never) h = refl
-found-done chapter now cell (answered.Asked leaf finished.Done) h = refl
-found-done chapter now cell (answered.Asked leaf (finished.Refused q)) h = let z : ◌≡◌ {A = ℕ} 0 1 = cc in absurd (omega arith)
+found-done : (chapter : ℕ) (now : List ℕ) (cell : Cell) (a : Answered) → found_by chapter a now ≡ found.Cell cell → outcome_of a ≡ Ok tt
+found-done chapter now cell (answered.Asked leaf (Ok finished.Record)) h = refl
+found-done chapter now cell (answered.Asked leaf (Ok finished.Never)) h = refl
+found-done chapter now cell (answered.Asked leaf (Ok finished.Done)) h = refl
+found-done chapter now cell (answered.Asked leaf (Err q)) h = let z : ◌≡◌ {A = ℕ} 0 1 = cc in absurd (omega arith)
 found-done chapter now cell (answered.Refused q) h = let z : ◌≡◌ {A = ℕ} 0 1 = cc in absurd (omega arith)
 
-found-outcome : (chapter : ℕ) (now : List ℕ) (q : Refusal) (a : Answered) → found_by chapter a now ≡ found.Refused q → outcome_of a ≡ outcome.Refused q
+found-outcome : (chapter : ℕ) (now : List ℕ) (q : Refusal) (a : Answered) → found_by chapter a now ≡ found.Refused q → outcome_of a ≡ Err q
 found-outcome chapter now q (answered.Asked leaf f) h = ap finished_outcome (found-refused chapter now q f h)
-found-outcome chapter now q (answered.Refused r) h = let k : r ≡ q = cc in ap outcome.Refused k
+found-outcome chapter now q (answered.Refused r) h = let k : r ≡ q = cc in ap Err k
 
 module _ (b : Start) (byte : b.room < 256) where
   -- it goes on, or ends the row in one of the ways
@@ -93,4 +92,4 @@ module _ (b : Start) (byte : b.room < 256) (ts : TreeState) (reached : TreeReach
   row_ends =
       run_ends b byte chapter (end - first) first draws no_counts ts.state.desk ts.tree (zeros (path_len (sizes_of ts.state.desk))) (zeros record_len)
       (begins b byte ts reached o.ready) (length-zeros record_len) (row-passed o.checked).range.low (range-high b byte ts reached first end draws o.checked)
-      o.all_leaves q (sym (ap (λ (x : Outcome). (row_by x ts.state.desk ts.tree chapter first end draws).answer) o.checked) ∙ h)
+      o.all_leaves q (sym (ap (λ (x : Result Unit Refusal). (row_by x ts.state.desk ts.tree chapter first end draws).answer) o.checked) ∙ h)

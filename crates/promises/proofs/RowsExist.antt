@@ -1,4 +1,6 @@
 -- There are counted rows: on a fresh store a row of one id is counted, and its case is not run. Assumes nothing.
+use Rattle.std.specs.Prelude.{Result}
+use Rattle.sizes.specs.declared.Refusal.{Refusal}
 use Prim.Native.Nat.{ℕ, ◌+◌, ◌-◌, ◌<◌, ◌≤◌}
 use mathlib.Core.Path.{◌≡◌, ap, ◌∙◌}
 use mathlib.Core.Bool.{false}
@@ -7,7 +9,6 @@ use lib.ListN.{length}
 use lib.Dec.{eqb}
 use Rattle.words.specs.Bytes.{zeros}
 use Rattle.words.proofs.Splice.{length-zeros}
-use Rattle.sizes.specs.declared.Outcome.{Outcome}
 use Rattle.sizes.specs.Sizes.{record_len, leaves, tree_len}
 use Rattle.desk.specs.declared.Kind.TheVariants.{Read}
 use Rattle.requests.specs.declared.Answered.{Answered}
@@ -38,4 +39,4 @@ module _ (b : Start) (lent : List ℕ) (p : Proper b lent) (room : 1 ≤ b.room)
       ∙ ap (λ (n : ℕ). Counted (plus NotRun no_counts) (eqb 0 n)) (one-id id)
 
   pub first_row : (row_of desk tree chapter id (id + 1) (draw ∷ [])).answer ≡ Counted (plus NotRun no_counts) false
-  first_row = ap (λ (o : Outcome). (row_by o desk tree chapter id (id + 1) (draw ∷ [])).answer) (checked b lent p tree size id draw low high) ∙ counted
+  first_row = ap (λ (o : Result Unit Refusal). (row_by o desk tree chapter id (id + 1) (draw ∷ [])).answer) (checked b lent p tree size id draw low high) ∙ counted

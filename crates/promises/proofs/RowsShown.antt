@@ -1,12 +1,12 @@
 -- A row shows what requests of its range would show in some surroundings; one that is counted has asked for each id of the range. Assumes nothing.
+use Rattle.std.specs.Prelude.{Err, Ok, Result}
+use Rattle.sizes.specs.declared.Refusal.{Refusal}
 use Prim.Native.Nat.{ℕ, suc, ◌-◌}
 use mathlib.Core.Path.{◌≡◌, refl, ap, subst₂, ◌∙◌}
 use mathlib.Core.Bool.{Bool}
 use mathlib.Core.List.{List, [], ◌∷◌, ◌++◌}
 use lib.ListN.{length, take, drop, take-append-drop}
 use Rattle.words.specs.Bytes.{zeros}
-use Rattle.sizes.specs.declared.Outcome.{Outcome}
-use Rattle.sizes.specs.declared.Outcome.TheVariants as outcome
 use Rattle.sizes.specs.Sizes.{record_len, path_len}
 use Rattle.desk.specs.declared.Kind.TheVariants.{Read}
 use Rattle.desk.specs.Readers.{sizes_of}
@@ -51,10 +51,10 @@ module _ (chapter n : ℕ) (us rest : List ℕ) (more : List ℕ → List ℕ) w
 
     read-follows : (a : Answered) → FollowsRead a
     read-follows (answered.Refused r) = refl
-    read-follows (answered.Asked p finished.Record) = on-cell p (record_cell chapter b)
-    read-follows (answered.Asked p finished.Never) = on-cell p NotRun
-    read-follows (answered.Asked p finished.Done) = on-cell p Bad
-    read-follows (answered.Asked p (finished.Refused r)) = refl
+    read-follows (answered.Asked p (Ok finished.Record)) = on-cell p (record_cell chapter b)
+    read-follows (answered.Asked p (Ok finished.Never)) = on-cell p NotRun
+    read-follows (answered.Asked p (Ok finished.Done)) = on-cell p Bad
+    read-follows (answered.Asked p (Err r)) = refl
 
   module _ (on : (d : List ℕ) → Shown (more d) d us rest) where
     reads-shown : (id : ℕ) (xs : List ℕ) → After id xs
@@ -72,11 +72,11 @@ module _ (desk tree : List ℕ) (chapter first end : ℕ) (us xs : List ℕ) (mo
   abbrev ys : List ℕ
   ys = take (end - first) xs
 
-  pub row-shown : (o : Outcome) → row_checked desk tree first end ys ≡ o
+  pub row-shown : (o : Result Unit Refusal) → row_checked desk tree first end ys ≡ o
       → Shown (row_shows_by o desk tree first ys ++ go_on_row (row_by o desk tree chapter first end ys).answer (more (row_by o desk tree chapter first end ys).desk))
       desk (from first (end - first) ++ us) xs
-  row-shown (outcome.Refused q) e = shown-nothing desk (from first (end - first) ++ us) xs
-  row-shown outcome.Done e =
+  row-shown (Err q) e = shown-nothing desk (from first (end - first) ++ us) xs
+  row-shown (Ok tt) e =
       subst₂ (λ (k : ℕ) (zs : List ℕ).
       Shown
       (reads_then chapter (end - first) us (drop (end - first) xs) more first ys no_counts desk tree (zeros (path_len (sizes_of desk))) (zeros record_len))
@@ -90,10 +90,10 @@ all_asked : (chapter : ℕ) (a : Answered) (r : ReadResult) (more : Cell → Run
     → ((cell : Cell) → (more cell).answer ≡ Counted c complete → length rest ≡ n) → (going_on r more (found_by chapter a b)).answer ≡ Counted c complete
     → length (leaf_asked a rest) ≡ suc n
 all_asked chapter (answered.Refused q) r more b rest n c complete f h = absurd (not-counted q c complete h)
-all_asked chapter (answered.Asked p finished.Record) r more b rest n c complete f h = ap suc (f (record_cell chapter b) h)
-all_asked chapter (answered.Asked p finished.Never) r more b rest n c complete f h = ap suc (f NotRun h)
-all_asked chapter (answered.Asked p finished.Done) r more b rest n c complete f h = ap suc (f Bad h)
-all_asked chapter (answered.Asked p (finished.Refused q)) r more b rest n c complete f h = absurd (not-counted q c complete h)
+all_asked chapter (answered.Asked p (Ok finished.Record)) r more b rest n c complete f h = ap suc (f (record_cell chapter b) h)
+all_asked chapter (answered.Asked p (Ok finished.Never)) r more b rest n c complete f h = ap suc (f NotRun h)
+all_asked chapter (answered.Asked p (Ok finished.Done)) r more b rest n c complete f h = ap suc (f Bad h)
+all_asked chapter (answered.Asked p (Err q)) r more b rest n c complete f h = absurd (not-counted q c complete h)
 
 reads_all : (chapter n id : ℕ) (xs : List ℕ) (c : Counts) (desk tree path buffer : List ℕ) (c' : Counts) (complete : Bool)
     → (row_from chapter n id xs c desk tree path buffer).answer ≡ Counted c' complete → length (reads_show id xs desk tree path buffer) ≡ length xs
@@ -111,6 +111,6 @@ pub each-asked : (desk tree : List ℕ) (chapter first end : ℕ) (draws : List 
     → (row_of desk tree chapter first end draws).answer ≡ Counted c complete → length (row_shows desk tree first end draws) ≡ end - first
 each-asked desk tree chapter first end draws c complete h =
     let w = was-done desk tree chapter first end draws c complete h in
-    ap (λ (o : Outcome). length (row_shows_by o desk tree first draws)) w.0
+    ap (λ (o : Result Unit Refusal). length (row_shows_by o desk tree first draws)) w.0
     ∙ reads_all chapter (end - first) first draws no_counts desk tree (zeros (path_len (sizes_of desk))) (zeros record_len) c complete w.1
     ∙ (row-passed w.0).draws_length

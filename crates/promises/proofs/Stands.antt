@@ -1,5 +1,6 @@
 -- What stands in every state: the invariant of desk, server and table, and what the member's book has to do with the desk. It stands after format. Assumes
 -- nothing.
+use Rattle.std.specs.Prelude.{Ok}
 use Prim.Native.Nat.{ℕ, ◌-◌, ◌≤◌}
 use mathlib.Core.Path.{◌≡◌, refl, sym, ap, subst, ◌∙◌}
 use mathlib.Core.Bool.{Bool, true, false, cond}
@@ -8,7 +9,6 @@ use mathlib.Core.List.{List, [], ◌++◌}
 use native.Mathlib.Omega.{arith}
 use lib.ListN.{get_or}
 use lib.Dec.{eqb}
-use Rattle.sizes.specs.declared.Outcome.TheVariants.{Done}
 use Rattle.bags.specs.Bags.{cnt}
 use Rattle.desk.specs.Layout.{ids_of, room_of}
 use Rattle.desk.specs.Readers.{sizes_of, key_of, root_of, is_written, status_of, id_asked, new_leaf, leaf_asked, position_of, stash_of}
@@ -69,7 +69,7 @@ begin_at b d =
 abbrev new : Start → List ℕ
 new b = formatted b.sizes.height b.sizes.slots b.room b.ids b.key b.starts
 
-module _ (m : Means) (b : Start) (lent : List ℕ) (f : (format_for b lent).answer ≡ Done) where
+module _ (m : Means) (b : Start) (lent : List ℕ) (f : (format_for b lent).answer ≡ Ok tt) where
   abbrev L : ℕ
   L = b.sizes.height
 

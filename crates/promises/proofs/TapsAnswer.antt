@@ -1,5 +1,6 @@
 -- TAP over a server that returns what was last written, from a ready desk, with leaves drawn: once nothing is refused before the first ask, a text is read,
 -- or written, or it ends as a run of requests does. Assumes nothing.
+use Rattle.std.specs.Prelude.{Err, Ok, Result}
 use Prim.Native.Nat.{ℕ, suc, ◌+◌, ◌-◌, ◌*◌, ◌<◌, ◌≤◌}
 use mathlib.Core.Path.{◌≡◌, refl, sym, ap, ◌∙◌}
 use mathlib.Core.List.{List, [], ◌∷◌}
@@ -8,8 +9,6 @@ use lib.ListN.{length}
 use Rattle.words.specs.Bytes.{splice, zeros}
 use Rattle.words.proofs.Splice.{length_part, length-zeros}
 use Rattle.sizes.specs.declared.Refusal.{Refusal}
-use Rattle.sizes.specs.declared.Outcome.{Outcome}
-use Rattle.sizes.specs.declared.Outcome.TheVariants as outcome
 use Rattle.sizes.specs.Sizes.{record_len, leaves, path_len}
 use Rattle.sizes.proofs.Rows.{not-refused}
 use Rattle.desk.specs.Readers.{sizes_of, status_of}
@@ -38,8 +37,8 @@ use Rattle.promises.proofs.TextSheets.{taken-long}
 module _ (b : Start) (byte : b.room < 256) where
   -- an entry goes on, or ends the pass in one of the ways
   record EntryEnds (r : EntryResult) : Type 0 where
-    goes : r.answer ≡ outcome.Done → Goes b byte r.desk r.tree r.path × (length r.entry ≡ record_len)
-    ends : (q : Refusal) → r.answer ≡ outcome.Refused q → Ends b q
+    goes : r.answer ≡ Ok tt → Goes b byte r.desk r.tree r.path × (length r.entry ≡ record_len)
+    ends : (q : Refusal) → r.answer ≡ Err q → Ends b q
 
   entry-ends : (id x : ℕ) (desk tree path entry : List ℕ) → Goes b byte desk tree path → length entry ≡ record_len → 1 ≤ id → id ≤ b.ids → x < leaves b.sizes
       → EntryEnds (request_entry desk tree path entry id x)
@@ -48,13 +47,13 @@ module _ (b : Start) (byte : b.room < 256) where
       let w = request-ends b byte (kind_of entry) id x path entry desk tree g long low high leaf in
       record { goes = w.goes; ends = w.ends }
 
-  pass_on : (here more : PassResult) (q : Refusal) (a : Outcome) → here.answer ≡ a → (a ≡ outcome.Refused q → Ends b q)
-      → (a ≡ outcome.Done → more.answer ≡ outcome.Refused q → Ends b q) → (going_on here more a).answer ≡ outcome.Refused q → Ends b q
-  pass_on here more q outcome.Done e now then h = then refl h
-  pass_on here more q (outcome.Refused p) e now then h = now (sym e ∙ h)
+  pass_on : (here more : PassResult) (q : Refusal) (a : Result Unit Refusal) → here.answer ≡ a → (a ≡ Err q → Ends b q)
+      → (a ≡ Ok tt → more.answer ≡ Err q → Ends b q) → (going_on here more a).answer ≡ Err q → Ends b q
+  pass_on here more q (Ok tt) e now then h = then refl h
+  pass_on here more q (Err p) e now then h = now (sym e ∙ h)
 
   pass-ends : (first n i : ℕ) (xs desk tree path sheet : List ℕ) → Goes b byte desk tree path → length sheet ≡ n * record_len → i + length xs ≡ n → 1 ≤ first
-      → first + n ≤ b.ids + 1 → AllLeaves b xs → (q : Refusal) → (pass_from first i xs desk tree path sheet).answer ≡ outcome.Refused q → Ends b q
+      → first + n ≤ b.ids + 1 → AllLeaves b xs → (q : Refusal) → (pass_from first i xs desk tree path sheet).answer ≡ Err q → Ends b q
   unfolding pass_from
   pass-ends first n i [] desk tree path sheet g long all low high leaf q h = absurd (not-refused q (sym h))
   pass-ends first n i (x ∷ xs) desk tree path sheet g long all low high leaf q h =
@@ -73,9 +72,9 @@ module _ (b : Start) (byte : b.room < 256) where
   -- ---- from a state that is reached
 
   module _ (ts : TreeState) (reached : TreeReached (ours real) b ts) (first end : ℕ) (draws sheet : List ℕ) (ready : status_of ts.state.desk ≡ ready_status)
-      (checked : row_checked ts.state.desk ts.tree first end draws ≡ outcome.Done) (all_leaves : AllLeaves b draws)
+      (checked : row_checked ts.state.desk ts.tree first end draws ≡ Ok tt) (all_leaves : AllLeaves b draws)
       (long : length sheet ≡ (end - first) * record_len) (q : Refusal) where
-    sheet-ends : (pass_of ts.state.desk ts.tree first draws sheet).answer ≡ outcome.Refused q → Ends b q
+    sheet-ends : (pass_of ts.state.desk ts.tree first draws sheet).answer ≡ Err q → Ends b q
     sheet-ends =
         let w = row-passed checked in
         let k : first + (end - first) ≤ b.ids + 1 = omega (arith, range-high b byte ts reached first end draws checked, w.draws_length) in
@@ -107,4 +106,4 @@ module _ (b : Start) (byte : b.room < 256) (ts : TreeState) (reached : TreeReach
       let r = pass_of desk tree first draws (empty_sheet n) in
       sheet-ends b byte ts reached first end draws (empty_sheet n) o.ready (row-checked desk tree first end draws out o.checked) o.all_leaves
       (length-zeros (n * record_len)) q
-      (printed-same chapter n r out q r.answer (sym (ap (λ (a : Outcome). (write_by a desk tree chapter first end draws out).answer) o.checked) ∙ h))
+      (printed-same chapter n r out q r.answer (sym (ap (λ (a : Result Unit Refusal). (write_by a desk tree chapter first end draws out).answer) o.checked) ∙ h))

@@ -1,5 +1,7 @@
 -- There are texts that are read, and texts that are written: on a fresh store a good text for one id is read, and its text is written, version and plan
 -- alone. Assumes nothing.
+use Rattle.std.specs.Prelude.{Ok, Result}
+use Rattle.sizes.specs.declared.Refusal.{Refusal}
 use Prim.Native.Nat.{ℕ, ◌+◌, ◌-◌, ◌*◌, ◌<◌, ◌≤◌}
 use mathlib.Core.Path.{◌≡◌, refl, sym, ap, ◌∙◌}
 use mathlib.Core.Option.{Option, none, some}
@@ -8,8 +10,6 @@ use native.Mathlib.Omega.{arith}
 use lib.ListN.{length}
 use Rattle.words.specs.Bytes.{splice, zeros}
 use Rattle.words.proofs.Splice.{length_part, length-zeros}
-use Rattle.sizes.specs.declared.Outcome.{Outcome}
-use Rattle.sizes.specs.declared.Outcome.TheVariants as outcome
 use Rattle.sizes.specs.Sizes.{record_len, leaves, tree_len}
 use Rattle.desk.specs.declared.Kind.{Kind}
 use Rattle.desk.specs.declared.Kind.TheVariants.{Read, Write}
@@ -38,7 +38,7 @@ use Rattle.promises.proofs.TapsWritten.{says-table}
 use Rattle.promises.proofs.FirstRequests as fresh
 use Rattle.promises.proofs.FirstRequests.{one-id, checked, first-answer}
 
-plain_done : (kind : Kind) (held : Option (List ℕ)) → finished_outcome (plain_answer kind held) ≡ outcome.Done
+plain_done : (kind : Kind) (held : Option (List ℕ)) → finished_outcome (plain_answer kind held) ≡ Ok tt
 plain_done Read none = refl
 plain_done Read (some rec) = refl
 plain_done Write held = refl
@@ -62,14 +62,14 @@ module _ (b : Start) (lent : List ℕ) (p : Proper b lent) (room : 1 ≤ b.room)
   desk = (format_for b lent).desk
 
   -- a sheet of one entry passes
-  passes : (sheet : List ℕ) → record_len ≤ length sheet → (pass_of desk tree id (draw ∷ []) sheet).answer ≡ outcome.Done
+  passes : (sheet : List ℕ) → record_len ≤ length sheet → (pass_of desk tree id (draw ∷ []) sheet).answer ≡ Ok tt
   unfolding pass_from request_entry
   passes sheet long =
       let entry = entry_at sheet 0 in
       let path = fresh.path b lent p tree size in
       let r = request_entry desk tree path entry (id + 0) draw in
       let laid = splice sheet (entry_start 0) r.entry in
-      ap (λ (a : Outcome). (going_on (passed r.answer r.desk r.tree r.path laid) (pass_from id 1 [] r.desk r.tree r.path laid) a).answer)
+      ap (λ (a : Result Unit Refusal). (going_on (passed r.answer r.desk r.tree r.path laid) (pass_from id 1 [] r.desk r.tree r.path laid) a).answer)
       (ap outcome_of
       (first-answer b lent p tree size room (kind_of entry) entry (length_part sheet (entry_start 0) record_len (omega arith)) (id + 0) draw (omega arith) (omega arith) leaf)
       ∙ plain_done (kind_of entry) none)
@@ -93,9 +93,9 @@ module _ (b : Start) (lent : List ℕ) (p : Proper b lent) (room : 1 ≤ b.room)
 
     is-written : (write_of desk tree chapter id (id + 1) (draw ∷ []) out).answer ≡ printed.Length (length (text_of chapter n through.sheet))
     is-written =
-        ap (λ (o : Outcome). (write_by o desk tree chapter id (id + 1) (draw ∷ []) out).answer)
+        ap (λ (o : Result Unit Refusal). (write_by o desk tree chapter id (id + 1) (draw ∷ []) out).answer)
         (write_checked_lem desk tree id (id + 1) (draw ∷ []) out (checked b lent p tree size id draw low high) (long ∙ ap room_of (sym (one-id id))))
-        ∙ ap (λ (o : Outcome). (printed_by o chapter n through out).answer) (passes (empty_sheet n) (omega (arith, length-zeros (n * record_len))))
+        ∙ ap (λ (o : Result Unit Refusal). (printed_by o chapter n through out).answer) (passes (empty_sheet n) (omega (arith, length-zeros (n * record_len))))
 
     -- the table is empty
     says_none : text_of chapter n (table_sheet no_table id n) ≡ head_text 1

@@ -1,5 +1,7 @@
 -- A text that is read over a server that returns what was last written is what the plain table then holds, and what was done before a refusal stays.
 -- Assumes nothing.
+use Rattle.std.specs.Prelude.{Err, Ok, Result}
+use Rattle.sizes.specs.declared.Refusal.{Refusal}
 use Prim.Native.Nat.{ℕ, ◌-◌, ◌<◌, ◌≤◌}
 use mathlib.Core.Path.{◌≡◌, refl, sym, ap, ◌∙◌}
 use mathlib.Core.Logic.{◌≢◌}
@@ -7,8 +9,6 @@ use mathlib.Core.List.{List}
 use native.Mathlib.Omega.{arith}
 use Rattle.words.specs.Bytes.{zeros}
 use Rattle.sizes.specs.declared.Refusal.TheVariants.{Forged}
-use Rattle.sizes.specs.declared.Outcome.{Outcome}
-use Rattle.sizes.specs.declared.Outcome.TheVariants as outcome
 use Rattle.sizes.specs.Sizes.{path_len}
 use Rattle.desk.specs.Readers.{sizes_of}
 use Rattle.items.specs.Real.{real}
@@ -49,7 +49,7 @@ module _ (b : Start) (byte : b.room < 256) (ts : TreeState) (reached : TreeReach
     abbrev sheet : List ℕ
     sheet = sheet_of chapter year first end text
 
-    module _ (e : row_checked desk tree first end draws ≡ outcome.Done) where
+    module _ (e : row_checked desk tree first end draws ≡ Ok tt) where
       read-passes : PassIs b byte table (held-long b byte ts reached) first n sheet (taken-long chapter year n text)
           (pass_from first 0 draws desk tree (zeros (path_len (sizes_of desk))) sheet)
       read-passes = passes b byte ts reached first n sheet draws (taken-long chapter year n text) (row-passed e).draws_length
@@ -72,7 +72,7 @@ module _ (b : Start) (byte : b.room < 256) (ts : TreeState) (reached : TreeReach
           not_forged = f;
         }
 
-    by-text : (a : Text) → row_checked desk tree first end draws ≡ outcome.Done → Read (read_text a desk tree first draws sheet)
+    by-text : (a : Text) → row_checked desk tree first end draws ≡ Ok tt → Read (read_text a desk tree first draws sheet)
     by-text took.Good e =
         let p = read-passes e in
         record {
@@ -85,11 +85,11 @@ module _ (b : Start) (byte : b.room < 256) (ts : TreeState) (reached : TreeReach
     by-text (took.Bad t line) e =
         unread (taken.Bad t line) (λ h. let z : ◌≡◌ {A = ℕ} 0 1 = cc in omega arith) (λ h. let z : ◌≡◌ {A = ℕ} 0 1 = cc in omega arith)
 
-    by-checks : (o : Outcome) → row_checked desk tree first end draws ≡ o → Read (read_by o desk tree chapter year first end draws text)
-    by-checks (outcome.Refused q) e =
+    by-checks : (o : Result Unit Refusal) → row_checked desk tree first end draws ≡ o → Read (read_by o desk tree chapter year first end draws text)
+    by-checks (Err q) e =
         unread (taken.Refused q) (λ h. let z : ◌≡◌ {A = ℕ} 0 1 = cc in omega arith)
         (λ h. row_low desk tree first end draws q e (let k : q ≡ Forged = cc in k))
-    by-checks outcome.Done e = by-text (take_of chapter year n text).answer e
+    by-checks (Ok tt) e = by-text (take_of chapter year n text).answer e
 
     pub read : Read (tap_read ts chapter year first end draws text)
     read = by-checks (row_checked desk tree first end draws) refl

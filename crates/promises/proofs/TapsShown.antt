@@ -1,13 +1,13 @@
 -- A text of TAP that is read or written shows what requests of its range would show in some surroundings; it has asked for each id of the range, whatever
 -- it says. Assumes nothing.
+use Rattle.std.specs.Prelude.{Err, Ok, Result}
+use Rattle.sizes.specs.declared.Refusal.{Refusal}
 use Prim.Native.Nat.{ℕ, suc, ◌+◌, ◌-◌}
 use mathlib.Core.Path.{◌≡◌, refl, ap, ap₂, subst, subst₂, ◌∙◌}
 use mathlib.Core.List.{List, [], ◌∷◌, ◌++◌}
 use native.Mathlib.Omega.{arith}
 use lib.ListN.{length, take, drop, take-append-drop}
 use Rattle.words.specs.Bytes.{splice, zeros}
-use Rattle.sizes.specs.declared.Outcome.{Outcome}
-use Rattle.sizes.specs.declared.Outcome.TheVariants as outcome
 use Rattle.sizes.specs.Sizes.{path_len}
 use Rattle.sizes.proofs.Rows.{not-refused}
 use Rattle.desk.specs.Readers.{sizes_of}
@@ -32,9 +32,9 @@ use Rattle.promises.proofs.OneShown.{Shown, shown-nothing, GoesOn, Follows, requ
 
 -- ---- the requests of a sheet, and what goes on after them
 
-abbrev go_on_if : Outcome → List ℕ → List ℕ
-go_on_if outcome.Done more = more
-go_on_if (outcome.Refused q) more = []
+abbrev go_on_if : Result Unit Refusal → List ℕ → List ℕ
+go_on_if (Ok tt) more = more
+go_on_if (Err q) more = []
 
 module _ (first : ℕ) (us rest : List ℕ) (more : List ℕ → List ℕ) where
   abbrev then_more : List ℕ → PassResult → List ℕ
@@ -64,10 +64,10 @@ module _ (first : ℕ) (us rest : List ℕ) (more : List ℕ → List ℕ) where
 
     entry_follows : (a : Answered) → FollowsEntry a
     entry_follows (answered.Refused r) = refl
-    entry_follows (answered.Asked p finished.Record) = on-entry p
-    entry_follows (answered.Asked p finished.Never) = on-entry p
-    entry_follows (answered.Asked p finished.Done) = on-entry p
-    entry_follows (answered.Asked p (finished.Refused r)) = refl
+    entry_follows (answered.Asked p (Ok finished.Record)) = on-entry p
+    entry_follows (answered.Asked p (Ok finished.Never)) = on-entry p
+    entry_follows (answered.Asked p (Ok finished.Done)) = on-entry p
+    entry_follows (answered.Asked p (Err r)) = refl
 
   module _ (on : (d : List ℕ) → Shown (more d) d us rest) where
     pass-shown : (i : ℕ) (xs : List ℕ) → After i xs
@@ -95,14 +95,14 @@ module _ (desk tree : List ℕ) (first n : ℕ) (us xs : List ℕ) (more : List 
 
 -- ---- a text that is read, and one that is written: a draw for each id of its range, or nothing is shown
 
-on-taken : (o : Outcome) (more : List ℕ) → go_on_if o more ≡ go_on_taken (taken_by o) more
-on-taken outcome.Done more = refl
-on-taken (outcome.Refused q) more = refl
+on-taken : (o : Result Unit Refusal) (more : List ℕ) → go_on_if o more ≡ go_on_taken (taken_by o) more
+on-taken (Ok tt) more = refl
+on-taken (Err q) more = refl
 
-on-printed : (o : Outcome) (chapter n : ℕ) (r : SheetResult) (out : List ℕ) (more : List ℕ → List ℕ)
+on-printed : (o : Result Unit Refusal) (chapter n : ℕ) (r : SheetResult) (out : List ℕ) (more : List ℕ → List ℕ)
     → go_on_if o (more r.desk) ≡ go_on_printed (printed_by o chapter n r out).answer (more (printed_by o chapter n r out).desk)
-on-printed outcome.Done chapter n r out more = refl
-on-printed (outcome.Refused q) chapter n r out more = refl
+on-printed (Ok tt) chapter n r out more = refl
+on-printed (Err q) chapter n r out more = refl
 
 module _ (desk tree : List ℕ) (first end : ℕ) (us xs : List ℕ) (more : List ℕ → List ℕ) (on : (d : List ℕ) → Shown (more d) d us (drop (end - first) xs)) where
   abbrev ys : List ℕ
@@ -124,36 +124,36 @@ module _ (desk tree : List ℕ) (first end : ℕ) (us xs : List ℕ) (more : Lis
       (sheet-shown desk tree first (end - first) us xs more on sheet l)
   text-shown (took.Bad trouble line) sheet l = nothing
 
-  pub tap-in-shown : (chapter year : ℕ) (text : List ℕ) (o : Outcome) → row_checked desk tree first end ys ≡ o
+  pub tap-in-shown : (chapter year : ℕ) (text : List ℕ) (o : Result Unit Refusal) → row_checked desk tree first end ys ≡ o
       → Here
       (tap_in_shows_by o desk tree chapter year first end ys text
       ++ go_on_taken (read_by o desk tree chapter year first end ys text).answer (more (read_by o desk tree chapter year first end ys text).desk))
-  tap-in-shown chapter year text (outcome.Refused q) e = nothing
-  tap-in-shown chapter year text outcome.Done e =
+  tap-in-shown chapter year text (Err q) e = nothing
+  tap-in-shown chapter year text (Ok tt) e =
       let t = take_of chapter year (end - first) text in
       text-shown t.answer t.sheet (row-passed e).draws_length
 
-  pub tap-out-shown : (chapter : ℕ) (out : List ℕ) (o : Outcome) → write_checked desk tree first end ys out ≡ o
+  pub tap-out-shown : (chapter : ℕ) (out : List ℕ) (o : Result Unit Refusal) → write_checked desk tree first end ys out ≡ o
       → Here
       (tap_out_shows_by o desk tree first end ys
       ++ go_on_printed (write_by o desk tree chapter first end ys out).answer (more (write_by o desk tree chapter first end ys out).desk))
-  tap-out-shown chapter out (outcome.Refused q) e = nothing
-  tap-out-shown chapter out outcome.Done e =
+  tap-out-shown chapter out (Err q) e = nothing
+  tap-out-shown chapter out (Ok tt) e =
       let r = pass_of desk tree first ys (empty_sheet (end - first)) in
       subst (λ (w : List ℕ). Here (sheet_shows desk tree first ys (empty_sheet (end - first)) ++ w)) (on-printed r.answer chapter (end - first) r out more)
       (sheet-shown desk tree first (end - first) us xs more on (empty_sheet (end - first)) (row-passed (row-checked desk tree first end ys out e)).draws_length)
 
 -- ---- each was asked for
 
-all_asked : (a : Answered) (d t q s : List ℕ) (more : PassResult) (rest : List ℕ) (n : ℕ) → (more.answer ≡ outcome.Done → length rest ≡ n)
-    → (going_on (passed (outcome_of a) d t q s) more (outcome_of a)).answer ≡ outcome.Done → length (leaf_asked a rest) ≡ suc n
+all_asked : (a : Answered) (d t q s : List ℕ) (more : PassResult) (rest : List ℕ) (n : ℕ) → (more.answer ≡ Ok tt → length rest ≡ n)
+    → (going_on (passed (outcome_of a) d t q s) more (outcome_of a)).answer ≡ Ok tt → length (leaf_asked a rest) ≡ suc n
 all_asked (answered.Refused r) d t q s more rest n f h = absurd (not-refused r h)
-all_asked (answered.Asked p finished.Record) d t q s more rest n f h = ap suc (f h)
-all_asked (answered.Asked p finished.Never) d t q s more rest n f h = ap suc (f h)
-all_asked (answered.Asked p finished.Done) d t q s more rest n f h = ap suc (f h)
-all_asked (answered.Asked p (finished.Refused r)) d t q s more rest n f h = absurd (not-refused r h)
+all_asked (answered.Asked p (Ok finished.Record)) d t q s more rest n f h = ap suc (f h)
+all_asked (answered.Asked p (Ok finished.Never)) d t q s more rest n f h = ap suc (f h)
+all_asked (answered.Asked p (Ok finished.Done)) d t q s more rest n f h = ap suc (f h)
+all_asked (answered.Asked p (Err r)) d t q s more rest n f h = absurd (not-refused r h)
 
-pass_all : (first i : ℕ) (xs desk tree path sheet : List ℕ) → (pass_from first i xs desk tree path sheet).answer ≡ outcome.Done
+pass_all : (first i : ℕ) (xs desk tree path sheet : List ℕ) → (pass_from first i xs desk tree path sheet).answer ≡ Ok tt
     → length (pass_shows first i xs desk tree path sheet) ≡ length xs
 unfolding pass_shows pass_from request_entry
 pass_all first i [] desk tree path sheet h = refl
@@ -169,7 +169,7 @@ pub read_asked : (desk tree : List ℕ) (chapter year first end : ℕ) (draws te
 read_asked desk tree chapter year first end draws text h =
     let w = was_read desk tree chapter year first end draws text h in
     let sheet = (take_of chapter year (end - first) text).sheet in
-    ap (λ (o : Outcome). length (tap_in_shows_by o desk tree chapter year first end draws text)) w.checked
+    ap (λ (o : Result Unit Refusal). length (tap_in_shows_by o desk tree chapter year first end draws text)) w.checked
     ∙ ap (λ (a : Text). length (text_shows a desk tree first draws sheet)) w.good
     ∙ pass_all first 0 draws desk tree (zeros (path_len (sizes_of desk))) sheet w.passes
     ∙ (row-passed w.checked).draws_length
@@ -178,6 +178,6 @@ pub write-asked : (desk tree : List ℕ) (chapter first end : ℕ) (draws out : 
     → (write_of desk tree chapter first end draws out).answer ≡ printed.Length len → length (tap_out_shows desk tree first end draws out) ≡ end - first
 write-asked desk tree chapter first end draws out len h =
     let w = was-written desk tree chapter first end draws out len h in
-    ap (λ (o : Outcome). length (tap_out_shows_by o desk tree first end draws)) w.checked
+    ap (λ (o : Result Unit Refusal). length (tap_out_shows_by o desk tree first end draws)) w.checked
     ∙ pass_all first 0 draws desk tree (zeros (path_len (sizes_of desk))) (empty_sheet (end - first)) w.says.passes
     ∙ (row-passed (row-checked desk tree first end draws out w.checked)).draws_length

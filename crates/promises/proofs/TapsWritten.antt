@@ -1,4 +1,5 @@
 -- A text that is written over a server that returns what was last written is what the plain table says, and the table stays. Assumes nothing.
+use Rattle.std.specs.Prelude.{Err, Ok, Result}
 use Prim.Native.Nat.{ℕ, ◌+◌, ◌-◌, ◌*◌, ◌<◌}
 use mathlib.Core.Path.{◌≡◌, refl, sym, ap, ◌∙◌}
 use mathlib.Core.Logic.{◌≢◌}
@@ -11,8 +12,6 @@ use Rattle.words.specs.Bytes.{splice, zeros}
 use Rattle.words.proofs.Splice.{part-whole, length-zeros}
 use Rattle.sizes.specs.declared.Refusal.{Refusal}
 use Rattle.sizes.specs.declared.Refusal.TheVariants.{Forged}
-use Rattle.sizes.specs.declared.Outcome.{Outcome}
-use Rattle.sizes.specs.declared.Outcome.TheVariants as outcome
 use Rattle.sizes.specs.Sizes.{record_len, path_len}
 use Rattle.desk.specs.Readers.{sizes_of}
 use Rattle.items.specs.Real.{real}
@@ -32,7 +31,7 @@ use Rattle.promises.proofs.AnyTaps.{row-checked, was-written}
 use Rattle.promises.proofs.TableSheets.{empty-entry, empty-after, sheet-says}
 use Rattle.promises.proofs.HonestPasses.{PassIs, passes}
 
-write_low : (desk tree : List ℕ) (first end : ℕ) (draws out : List ℕ) (q : Refusal) → write_checked desk tree first end draws out ≡ outcome.Refused q → q ≢ Forged
+write_low : (desk tree : List ℕ) (first end : ℕ) (draws out : List ℕ) (q : Refusal) → write_checked desk tree first end draws out ≡ Err q → q ≢ Forged
 unfolding write_checked
 write_low desk tree first end draws out q h =
     not_low q (low-refusal (write_rows desk tree first end draws out) (lit< tt, (lit< tt, (lit< tt, (lit< tt, tt)))) q h)
@@ -59,7 +58,7 @@ module _ (b : Start) (byte : b.room < 256) (ts : TreeState) (reached : TreeReach
     abbrev through : SheetResult
     through = pass_of desk tree first draws (empty_sheet m)
 
-    write-passes : write_checked desk tree first end draws out ≡ outcome.Done
+    write-passes : write_checked desk tree first end draws out ≡ Ok tt
         → PassIs b byte table (held-long b byte ts reached) first m (empty_sheet m) (length-zeros (m * record_len))
         (pass_from first 0 draws desk tree (zeros (path_len (sizes_of desk))) (empty_sheet m))
     write-passes e = passes b byte ts reached first m (empty_sheet m) draws (length-zeros (m * record_len)) (row-passed (row-checked desk tree first end draws out e)).draws_length
@@ -69,14 +68,14 @@ module _ (b : Start) (byte : b.room < 256) (ts : TreeState) (reached : TreeReach
       stands : Stands b table r.desk r.tree
       pub not_forged : r.answer ≢ printed.Refused Forged
 
-    by-pass : (o : Outcome) → Stands b table through.desk through.tree → o ≢ outcome.Refused Forged → Written (printed_by o chapter m through out)
-    by-pass outcome.Done s f = record { stands = s; not_forged = λ h. let z : ◌≡◌ {A = ℕ} 0 1 = cc in omega arith }
-    by-pass (outcome.Refused q) s f = record { stands = s; not_forged = λ h. f (let k : q ≡ Forged = cc in ap outcome.Refused k) }
+    by-pass : (o : Result Unit Refusal) → Stands b table through.desk through.tree → o ≢ Err Forged → Written (printed_by o chapter m through out)
+    by-pass (Ok tt) s f = record { stands = s; not_forged = λ h. let z : ◌≡◌ {A = ℕ} 0 1 = cc in omega arith }
+    by-pass (Err q) s f = record { stands = s; not_forged = λ h. f (let k : q ≡ Forged = cc in ap Err k) }
 
-    by-write : (o : Outcome) → write_checked desk tree first end draws out ≡ o → Written (write_by o desk tree chapter first end draws out)
-    by-write (outcome.Refused q) e =
+    by-write : (o : Result Unit Refusal) → write_checked desk tree first end draws out ≡ o → Written (write_by o desk tree chapter first end draws out)
+    by-write (Err q) e =
         record { stands = here b ts reached; not_forged = λ h. write_low desk tree first end draws out q e (let k : q ≡ Forged = cc in k) }
-    by-write outcome.Done e =
+    by-write (Ok tt) e =
         let p = write-passes e in
         by-pass through.answer
         (stands-as b (table_after first p.count (empty_sheet m) table) table through.desk through.tree (empty-after first m p.count table p.count_low) p.stands)
@@ -91,7 +90,7 @@ module _ (b : Start) (byte : b.room < 256) (ts : TreeState) (reached : TreeReach
         record { after = s.at; reached = s.reached; desk_is = s.desk_is; tree_is = s.tree_is; table_is = s.table_is }
 
     -- the sheet says the table
-    sheet-is : write_checked desk tree first end draws out ≡ outcome.Done → through.answer ≡ outcome.Done → through.sheet ≡ table_sheet table first m
+    sheet-is : write_checked desk tree first end draws out ≡ Ok tt → through.answer ≡ Ok tt → through.sheet ≡ table_sheet table first m
     sheet-is e h =
         let s = (write-passes e).sheet-is h in
         sym (part-whole through.sheet (m * record_len) (omega (arith, s.sheet-long)))

@@ -1,12 +1,13 @@
 -- Demand 3 holds of our store: a run of asks and finishes shows a beginning of what ids and draws alone decide. Assumes nothing but what is asked of digest
 -- and cipher.
+use Rattle.sizes.specs.declared.Refusal.{Refusal}
+use Rattle.std.specs.Prelude.{Ok, Err, Result}
 use Prim.Native.Nat.{ℕ, pred, ◌+◌, ◌-◌, ◌<◌, ◌≤◌}
 use mathlib.Core.Path.{◌≡◌, refl, sym, ap, ap₂, ◌∙◌}
 use mathlib.Core.List.{List, [], ◌∷◌, ◌++◌}
 use native.Mathlib.Omega.{arith}
 use lib.ListN.{length, get_or, set, take, drop, length-append, length-map, length-drop, get_or-append}
 use lib.Seq.{ext_get_or, length-take-le, get_or-take}
-use Rattle.sizes.specs.declared.Outcome.TheVariants.{Done}
 use Rattle.desk.specs.Layout.{ids_of, room_of}
 use Rattle.desk.specs.Readers.{position_of}
 use Rattle.items.specs.Items.{Means, Sound}
@@ -16,8 +17,6 @@ use Rattle.draws.proofs.Shown.{length-shown, leaves-are}
 use Rattle.draws.proofs.Order.{never-twice}
 use Rattle.draws.proofs.Same.{rearrange-perm, same-leaves}
 use Rattle.draws.proofs.Last.{good-at, shown_last}
-use Rattle.asks.specs.declared.Asked.{Asked}
-use Rattle.asks.specs.declared.Asked.TheVariants as asked
 use Rattle.asks.specs.Ask.{ask_of}
 use Rattle.formats.specs.Format.{formatted}
 use Rattle.formats.proofs.Formatted.{new-ids, new-room, new-position}
@@ -33,7 +32,7 @@ use Rattle.promises.proofs.Moves.{positions, length-positions, get_d-positions, 
 abbrev new : Start → List ℕ
 new b = formatted b.sizes.height b.sizes.slots b.room b.ids b.key b.starts
 
-start-positions : (b : Start) (lent : List ℕ) → (format_for b lent).answer ≡ Done → positions b.ids (new b) ≡ b.starts
+start-positions : (b : Start) (lent : List ℕ) → (format_for b lent).answer ≡ Ok tt → positions b.ids (new b) ≡ b.starts
 start-positions b lent h =
     let p = passed b lent h in
     ext_get_or 0 (positions b.ids (new b)) b.starts (length-positions b.ids (new b) ∙ sym p.starts_length)
@@ -60,15 +59,15 @@ pub begins-length : (part whole : List ℕ) → Begins part whole → length par
 begins-length part whole p = omega (arith, simp length-append at (ap length p.1))
 
 module _ (m : Means) (o : Sound m) (n : ℕ) where
-  leaf-is : (desk : List ℕ) (u x p : ℕ) (e : Around) → 0 < u → u ≤ n → (ask_of desk e.kind u x e.content).answer ≡ asked.Leaf p → p ≡ get_or (positions n desk) (pred u) 0
+  leaf-is : (desk : List ℕ) (u x p : ℕ) (e : Around) → 0 < u → u ≤ n → (ask_of desk e.kind u x e.content).answer ≡ Ok p → p ≡ get_or (positions n desk) (pred u) 0
   leaf-is desk u x p e g l h =
       (asked_leaf desk e.kind u x e.content p h).position ∙ sym (get_d-positions n desk (pred u) (omega arith) ∙ ap (position_of desk) (omega arith))
 
   -- after an accepted finish the run goes on as from the new positions; after a refusal it shows no more
   on-finish : (desk : List ℕ) (u x p : ℕ) (e : Around) (us xs : List ℕ) (more : List ℕ) → Sized n desk → 0 < u → u ≤ n
-      → (ask_of desk e.kind u x e.content).answer ≡ asked.Leaf p
+      → (ask_of desk e.kind u x e.content).answer ≡ Ok p
       → (Sized n (finish_then (ours m) desk u x e).desk → Begins more (shown (positions n (finish_then (ours m) desk u x e).desk) us xs))
-      → (f : Finished) → (finish_then (ours m) desk u x e).answer ≡ f
+      → (f : Result Finished Refusal) → (finish_then (ours m) desk u x e).answer ≡ f
       → Begins (p ∷ go_on f more) (get_or (positions n desk) (pred u) 0 ∷ shown (set (positions n desk) (pred u) x) us xs)
   on-finish desk u x p e us xs more q g l h ih f k = go f k
     where
@@ -78,21 +77,21 @@ module _ (m : Means) (o : Sound m) (n : ℕ) where
           let i = ih (v.ids, omega (arith, v.room, q.1)) in
           (i.0, ap₂ (λ (y : ℕ) (ys : List ℕ). y ∷ ys) (leaf-is desk u x p e g l h) (i.1 ∙ ap (λ (ps : List ℕ). shown ps us xs) v.now))
 
-      go : (f : Finished) → (finish_then (ours m) desk u x e).answer ≡ f
+      go : (f : Result Finished Refusal) → (finish_then (ours m) desk u x e).answer ≡ f
           → Begins (p ∷ go_on f more) (get_or (positions n desk) (pred u) 0 ∷ shown (set (positions n desk) (pred u) x) us xs)
-      go finished.Record k = on (λ r j. accept-record r (sym k ∙ j))
-      go finished.Never k = on (λ r j. accept-never r (sym k ∙ j))
-      go finished.Done k = on (λ r j. accept-done r (sym k ∙ j))
-      go (finished.Refused r) k =
+      go (Ok finished.Record) k = on (λ r j. accept-record r (sym k ∙ j))
+      go (Ok finished.Never) k = on (λ r j. accept-never r (sym k ∙ j))
+      go (Ok finished.Done) k = on (λ r j. accept-done r (sym k ∙ j))
+      go (Err r) k =
           (shown (set (positions n desk) (pred u) x) us xs, ap (λ (y : ℕ). y ∷ shown (set (positions n desk) (pred u) x) us xs) (leaf-is desk u x p e g l h))
 
   on-ask : (desk : List ℕ) (u x : ℕ) (e : Around) (us xs : List ℕ) (more : List ℕ) → Sized n desk → 0 < u → u ≤ n
       → (Sized n (finish_then (ours m) desk u x e).desk → Begins more (shown (positions n (finish_then (ours m) desk u x e).desk) us xs))
-      → (a : Asked) → (ask_of desk e.kind u x e.content).answer ≡ a
+      → (a : Result ℕ Refusal) → (ask_of desk e.kind u x e.content).answer ≡ a
       → Begins (shown_if a (λ p. p ∷ go_on (finish_then (ours m) desk u x e).answer more))
       (get_or (positions n desk) (pred u) 0 ∷ shown (set (positions n desk) (pred u) x) us xs)
-  on-ask desk u x e us xs more q g l ih (asked.Leaf p) h = on-finish desk u x p e us xs more q g l h ih (finish_then (ours m) desk u x e).answer refl
-  on-ask desk u x e us xs more q g l ih (asked.Refused r) h = (get_or (positions n desk) (pred u) 0 ∷ shown (set (positions n desk) (pred u) x) us xs, refl)
+  on-ask desk u x e us xs more q g l ih (Ok p) h = on-finish desk u x p e us xs more q g l h ih (finish_then (ours m) desk u x e).answer refl
+  on-ask desk u x e us xs more q g l ih (Err r) h = (get_or (positions n desk) (pred u) 0 ∷ shown (set (positions n desk) (pred u) x) us xs, refl)
 
   begins : (desk us xs : List ℕ) (es : List Around) → AllGood n us → Sized n desk → Begins (shows (ours m) desk us xs es) (shown (positions n desk) us xs)
   unfolding shows shown

@@ -1,4 +1,6 @@
 -- A tree that holds what a server was last given: fetch from it returns that, and put into it writes it. Assumes nothing.
+use Rattle.std.specs.Prelude.{Err, Ok, Result}
+use Rattle.sizes.specs.declared.Refusal.{Refusal}
 use Prim.Native.Nat.{ℕ, suc, ◌*◌, ◌^◌, ◌<◌, ◌≤◌}
 use mathlib.Core.Path.{◌≡◌, refl, sym, ap, subst, ◌∙◌}
 use mathlib.Core.Logic.{◌≢◌}
@@ -12,8 +14,6 @@ use borrow.Author.Tests.{eqb-true, eqb-false, eq-eqb, le-leb, lt-leb}
 use Rattle.words.specs.Bytes.{part}
 use Rattle.words.proofs.Tests.{by_cases, below_or}
 use Rattle.sizes.specs.declared.Sizes.{Sizes}
-use Rattle.sizes.specs.declared.Outcome.{Outcome}
-use Rattle.sizes.specs.declared.Outcome.TheVariants.{Done, Refused}
 use Rattle.sizes.specs.Refusals.{kept_or}
 use Rattle.sizes.specs.Sizes.{InRange, leaves, item_of, path_len, bucket_no, place_in, bucket_at, tree_at, bucket_in, bucket_count, tree_len}
 use Rattle.sizes.proofs.Lengths.{range-sizes}
@@ -53,7 +53,7 @@ in_count s k j h l = omega (arith, pow-le-pow_right {n = 2} (omega arith) {i = k
 -- ---- fetch and put that are not refused
 
 module _ (s : Sizes) (leaf : ℕ) (tree path : List ℕ) where
-  pub fits-checked : Fits s leaf tree path → tree_checked s leaf tree path ≡ Done
+  pub fits-checked : Fits s leaf tree path → tree_checked s leaf tree path ≡ Ok tt
   unfolding tree_checked
   fits-checked f =
       rw (
@@ -66,10 +66,10 @@ module _ (s : Sizes) (leaf : ℕ) (tree path : List ℕ) where
       )
 
   fetch-done : Fits s leaf tree path → (fetch_of s leaf tree path).path ≡ fetched s leaf tree (suc s.height)
-  fetch-done f = ap (λ (o : Outcome). kept_or o path (fetched s leaf tree (suc s.height))) (fits-checked f)
+  fetch-done f = ap (λ (o : Result Unit Refusal). kept_or o path (fetched s leaf tree (suc s.height))) (fits-checked f)
 
   put-done : Fits s leaf tree path → (put_of s leaf tree path).tree ≡ put_back s leaf path tree (suc s.height)
-  put-done f = ap (λ (o : Outcome). kept_or o tree (put_back s leaf path tree (suc s.height))) (fits-checked f)
+  put-done f = ap (λ (o : Result Unit Refusal). kept_or o tree (put_back s leaf path tree (suc s.height))) (fits-checked f)
 
 module _ (s : Sizes) (leaf : ℕ) (server : Server) (tree : List ℕ) (range : InRange s) (low : leaf < leaves s) (h : Holds s server tree) where
   fetched-returns : Returns s server leaf (fetched s leaf tree (suc s.height))
@@ -85,13 +85,13 @@ module _ (s : Sizes) (leaf : ℕ) (server : Server) (tree : List ℕ) (range : I
   pub fetch-returns : (lent : List ℕ) → length (fetch_of s leaf tree lent).path ≡ path_len s → Returns s server leaf (fetch_of s leaf tree lent).path
   fetch-returns lent l = go (tree_checked s leaf tree lent) refl
     where
-      kept : (o : Outcome) → tree_checked s leaf tree lent ≡ o → (fetch_of s leaf tree lent).path ≡ kept_or o lent (fetched s leaf tree (suc s.height))
-      kept o e = ap (λ (o : Outcome). kept_or o lent (fetched s leaf tree (suc s.height))) e
+      kept : (o : Result Unit Refusal) → tree_checked s leaf tree lent ≡ o → (fetch_of s leaf tree lent).path ≡ kept_or o lent (fetched s leaf tree (suc s.height))
+      kept o e = ap (λ (o : Result Unit Refusal). kept_or o lent (fetched s leaf tree (suc s.height))) e
 
-      go : (o : Outcome) → tree_checked s leaf tree lent ≡ o → Returns s server leaf (fetch_of s leaf tree lent).path
-      go Done e = subst (λ (x : List ℕ). Returns s server leaf x) (sym (kept Done e)) fetched-returns
-      go (Refused q) e =
-          let f : Fits s leaf tree lent = record { range = range; leaf_low = low; tree_length = h.size; path_length = ap length (sym (kept (Refused q) e)) ∙ l } in
+      go : (o : Result Unit Refusal) → tree_checked s leaf tree lent ≡ o → Returns s server leaf (fetch_of s leaf tree lent).path
+      go (Ok tt) e = subst (λ (x : List ℕ). Returns s server leaf x) (sym (kept (Ok tt) e)) fetched-returns
+      go (Err q) e =
+          let f : Fits s leaf tree lent = record { range = range; leaf_low = low; tree_length = h.size; path_length = ap length (sym (kept (Err q) e)) ∙ l } in
           subst (λ (x : List ℕ). Returns s server leaf x) (sym (fetch-done s leaf tree lent f)) fetched-returns
 
   pub fetch-length : (lent : List ℕ) → length lent ≡ path_len s → length (fetch_of s leaf tree lent).path ≡ path_len s

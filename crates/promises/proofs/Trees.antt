@@ -1,12 +1,12 @@
 -- Demand 2 holds of our store with fetch and put on the other side. Assumes nothing but what is asked of digest and cipher.
+use Rattle.std.specs.Prelude.{Ok, Result, Err}
+use Rattle.sizes.specs.declared.Refusal.{Refusal}
 use Prim.Native.Nat.{ℕ, ◌<◌}
 use mathlib.Core.Path.{◌≡◌, refl, sym, ap, subst, ◌∙◌}
 use mathlib.Core.Option.{some}
 use mathlib.Core.List.{List, [], ◌∷◌, ◌++◌}
 use lib.ListN.{length}
 use Rattle.sizes.specs.declared.Sizes.{Sizes}
-use Rattle.sizes.specs.declared.Outcome.{Outcome}
-use Rattle.sizes.specs.declared.Outcome.TheVariants.{Done}
 use Rattle.sizes.specs.Refusals.{kept_or}
 use Rattle.sizes.specs.Sizes.{InRange, leaves, path_len, tree_len}
 use Rattle.bags.specs.Bags.{those}
@@ -17,8 +17,6 @@ use Rattle.desk.proofs.Known.{known}
 use Rattle.items.specs.Items.{Means, Sound}
 use Rattle.opening.specs.Opening.{view_of, is_id}
 use Rattle.tree.specs.Tree.{put_of}
-use Rattle.asks.specs.declared.Asked.{Asked}
-use Rattle.asks.specs.declared.Asked.TheVariants as asked
 use Rattle.store.specs.declared.Finished.{Finished}
 use Rattle.store.specs.declared.Finished.TheVariants as finished
 use Rattle.store.specs.Steps.{new_path}
@@ -72,14 +70,14 @@ module _ (m : Means) (o : Sound m) (b : Start) (byte : b.room < 256) where
           fetched-agrees t.ready.status lent (subst (λ (z : Sizes). length path ≡ path_len z) v.stands.sizes t.ready.path_length)
 
       -- an accepted path is put back
-      put-after : finish_checked m st.desk path buffer ≡ Done
+      put-after : finish_checked m st.desk path buffer ≡ Ok tt
           → Holds b.sizes (wrote b.sizes st.asked_leaf (finish_of m st.desk path buffer).path st.server)
           (put_of b.sizes st.asked_leaf ts.tree (finish_of m st.desk path buffer).path).tree
       put-after c =
           let t = done-through m st.desk path buffer c in
           let s = t.ready.status in
           let n = path_size m o b byte st v.stands path buffer t (by_length t) in
-          let e : (finish_of m st.desk path buffer).path ≡ new_path m st.desk path = ap (λ (x : Outcome). kept_or x path (new_path m st.desk path)) c in
+          let e : (finish_of m st.desk path buffer).path ≡ new_path m st.desk path = ap (λ (x : Result Unit Refusal). kept_or x path (new_path m st.desk path)) c in
           put_holds b.sizes st.asked_leaf st.server ts.tree range (leaf_low s) v.holds (finish_of m st.desk path buffer).path
           (ap length e ∙ n)
 
@@ -90,27 +88,27 @@ module _ (m : Means) (o : Sound m) (b : Start) (byte : b.room < 256) where
             holds = go (finish_of m st.desk path buffer).answer refl;
           }
         where
-          go : (a : Finished) → (finish_of m st.desk path buffer).answer ≡ a
+          go : (a : Result Finished Refusal) → (finish_of m st.desk path buffer).answer ≡ a
               → Holds b.sizes (after_finish b.sizes st a (finish_of m st.desk path buffer)).server
               (put_if a (put_of b.sizes st.asked_leaf ts.tree (finish_of m st.desk path buffer).path).tree ts.tree)
-          go finished.Record h = put-after (finished-done (finish_checked m st.desk path buffer) _ (λ q k. accept-record q (sym h ∙ k)))
-          go finished.Never h = put-after (finished-done (finish_checked m st.desk path buffer) _ (λ q k. accept-never q (sym h ∙ k)))
-          go finished.Done h = put-after (finished-done (finish_checked m st.desk path buffer) _ (λ q k. accept-done q (sym h ∙ k)))
-          go (finished.Refused q) h = v.holds
+          go (Ok finished.Record) h = put-after (finished-done (finish_checked m st.desk path buffer) _ (λ q k. accept-record q (sym h ∙ k)))
+          go (Ok finished.Never) h = put-after (finished-done (finish_checked m st.desk path buffer) _ (λ q k. accept-never q (sym h ∙ k)))
+          go (Ok finished.Done) h = put-after (finished-done (finish_checked m st.desk path buffer) _ (λ q k. accept-done q (sym h ∙ k)))
+          go (Err q) h = v.holds
 
     asked-both : (r : Request) → Both (turn (ours m) b.sizes ts (asking r))
     asked-both r = record { stands = ask-stands m b st v.stands r; holds = go (ask_for (ours m) st r).answer }
       where
-        go : (a : Asked) → Holds b.sizes (after_ask st r a (ask_for (ours m) st r).desk).server ts.tree
-        go (asked.Leaf p) = v.holds
-        go (asked.Refused q) = v.holds
+        go : (a : Result ℕ Refusal) → Holds b.sizes (after_ask st r a (ask_for (ours m) st r).desk).server ts.tree
+        go (Ok p) = v.holds
+        go (Err q) = v.holds
 
   turns-both : (ms : List Turn) (ts : TreeState) → Both ts → Both (turns (ours m) b.sizes ts ms)
   turns-both [] ts v = v
   turns-both (asking r ∷ ms) ts v = turns-both ms (turn (ours m) b.sizes ts (asking r)) (asked-both ts v r)
   turns-both (serving lent buffer ∷ ms) ts v = turns-both ms (turn (ours m) b.sizes ts (serving lent buffer)) (served-both ts v lent buffer)
 
-  begin-both : (lent : List ℕ) → (format_for b lent).answer ≡ Done → (tree : List ℕ) → length tree ≡ tree_len b.sizes
+  begin-both : (lent : List ℕ) → (format_for b lent).answer ≡ Ok tt → (tree : List ℕ) → length tree ≡ tree_len b.sizes
       → Both (record { state = begin b lent; tree = tree })
   begin-both lent f tree l =
       record {

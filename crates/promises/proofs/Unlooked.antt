@@ -1,12 +1,12 @@
 -- Bytes of items that are not reachable never matter to a finish: paths of one length that agree where they are reachable are finished alike. Assumes
 -- nothing.
+use Rattle.std.specs.Prelude.{Ok, Result}
+use Rattle.sizes.specs.declared.Refusal.{Refusal}
 use Prim.Native.Nat.{ℕ}
 use mathlib.Core.Path.{◌≡◌, refl, sym, ap, ap₂, ◌∙◌}
 use mathlib.Core.Bool.{not}
 use mathlib.Core.List.{List, ◌++◌}
 use lib.ListN.{length}
-use Rattle.sizes.specs.declared.Outcome.{Outcome}
-use Rattle.sizes.specs.declared.Outcome.TheVariants.{Done}
 use Rattle.sizes.specs.Refusals.{kept_or}
 use Rattle.bags.specs.Bags.{those}
 use Rattle.slots.specs.Slots.{Block}
@@ -61,13 +61,13 @@ unlooked m desk xs ys buffer size agree =
     let k = kind_asked desk in
     let w = is_marked desk (id_asked desk) in
     record {
-      answer = ap (λ (o : Outcome). finished_or o (answer_for k w)) c;
-      desk = ap₂ (λ (o : Outcome) (d : List ℕ). stopped_or o desk d) c (same-desk m desk xs ys agree);
+      answer = ap (λ (o : Result Unit Refusal). finished_or o (answer_for k w)) c;
+      desk = ap₂ (λ (o : Result Unit Refusal) (d : List ℕ). stopped_or o desk d) c (same-desk m desk xs ys agree);
       buffer =
-          ap₂ (λ (o : Outcome) (bs : List Block). kept_or o buffer (buffer_for k w (lookup (id_asked desk) bs) buffer)) c (gathered-agree m desk xs ys agree);
+          ap₂ (λ (o : Result Unit Refusal) (bs : List Block). kept_or o buffer (buffer_for k w (lookup (id_asked desk) bs) buffer)) c (gathered-agree m desk xs ys agree);
       path =
           λ a.
-          let d : finish_checked m desk xs buffer ≡ Done = finished-done (finish_checked m desk xs buffer) _ a in
-          let e : finish_checked m desk ys buffer ≡ Done = sym c ∙ d in
-          ap (λ (o : Outcome). kept_or o xs (new_path m desk xs)) d ∙ same-path m desk xs ys agree ∙ sym (ap (λ (o : Outcome). kept_or o ys (new_path m desk ys)) e);
+          let d : finish_checked m desk xs buffer ≡ Ok tt = finished-done (finish_checked m desk xs buffer) _ a in
+          let e : finish_checked m desk ys buffer ≡ Ok tt = sym c ∙ d in
+          ap (λ (o : Result Unit Refusal). kept_or o xs (new_path m desk xs)) d ∙ same-path m desk xs ys agree ∙ sym (ap (λ (o : Result Unit Refusal). kept_or o ys (new_path m desk ys)) e);
     }

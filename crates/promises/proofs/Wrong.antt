@@ -1,5 +1,7 @@
 -- Wrong stores are shut out by demand 2: those that refuse always, answer Never always, change nothing, write invented counters, or ask for leaf 0
 -- always. Assumes nothing but what is asked of digest and cipher.
+use Rattle.std.specs.Prelude.{Ok, Result, Err}
+use Rattle.sizes.specs.declared.Refusal.{Refusal}
 use Prim.Native.Nat.{ℕ, zero, suc, ◌+◌, ◌<◌}
 use mathlib.Core.Path.{◌≡◌, refl, sym, ap, subst, ◌∙◌}
 use mathlib.Core.Bool.{Bool, false, cond}
@@ -13,8 +15,6 @@ use Rattle.words.specs.Bytes.{zeros}
 use Rattle.words.specs.Numbers.{number, bytes_of}
 use Rattle.words.proofs.Splice.{length-zeros, get_d_part}
 use Rattle.sizes.specs.declared.Sizes.{Sizes}
-use Rattle.sizes.specs.declared.Outcome.{Outcome}
-use Rattle.sizes.specs.declared.Outcome.TheVariants.{Done}
 use Rattle.sizes.specs.Refusals.{kept_or}
 use Rattle.sizes.specs.Sizes.{sized, record_len, key_len, path_len, desk_len, inner_len, item_len, item_at, item_of}
 use Rattle.slots.specs.Slots.{Block}
@@ -26,8 +26,6 @@ use Rattle.items.specs.Way.{reachable}
 use Rattle.items.proofs.Fields.{item-long}
 use Rattle.opening.specs.Opening.{view_of}
 use Rattle.draws.specs.Draws.{rearrange, rearranged}
-use Rattle.asks.specs.declared.Asked.{Asked}
-use Rattle.asks.specs.declared.Asked.TheVariants as asked
 use Rattle.asks.specs.Ask.{ask_of}
 use Rattle.store.specs.declared.Finished.{Finished}
 use Rattle.store.specs.declared.Finished.TheVariants as finished
@@ -119,9 +117,9 @@ module _ (m : Means) (o : Sound m) where
   pub idle-out : DemandTwo m (idle m) → ⊥
   idle-out d =
       let r = reached-more (idle m) small (returned small) start (reached-begin (idle m) small (returned small) lent (proper-formats small lent small-proper)) (asks writing) tt in
-      let e : after (idle m) small.sizes start (asks writing) ≡ after_ask start writing (asked.Leaf 1) start.desk =
-      ap (λ (a : Asked). after_ask start writing a start.desk) (first_leaf m o small lent small-proper writing writing-fits) in
-      let k = d small (omega arith) (after_ask start writing (asked.Leaf 1) start.desk) (subst (λ (x : State). Reached (idle m) small (returned small) x) e r) in
+      let e : after (idle m) small.sizes start (asks writing) ≡ after_ask start writing (Ok 1) start.desk =
+      ap (λ (a : Result ℕ Refusal). after_ask start writing a start.desk) (first_leaf m o small lent small-proper writing writing-fits) in
+      let k = d small (omega arith) (after_ask start writing (Ok 1) start.desk) (subst (λ (x : State). Reached (idle m) small (returned small) x) e r) in
       some-none (k.is_ready (start-ready m o small lent small-proper))
     where
       some-none : some writing ≡ none → ⊥
@@ -130,7 +128,7 @@ module _ (m : Means) (o : Sound m) where
   pub zeroing-out : DemandTwo m (zeroing m) → ⊥
   zeroing-out d =
       let k = (at-start (zeroing m) d).takes (start-ready m o small lent small-proper) writing (omega arith) (omega arith) (omega arith) refl in
-      let e : asked.Leaf 0 ≡ asked.Leaf 1 = sym (ap leaf_zero (first_leaf m o small lent small-proper writing writing-fits)) ∙ k in
+      let e : Ok 0 ≡ Ok 1 = sym (ap leaf_zero (first_leaf m o small lent small-proper writing writing-fits)) ∙ k in
       let z : ◌≡◌ {A = ℕ} 0 1 = cc in
       omega arith
 
@@ -159,10 +157,10 @@ module _ (m : Means) (o : Sound m) where
       let r = first-ready m o small lent small-proper writing writing-fits some_path some_buffer (length-zeros _) (length-zeros _) in
       let n = first-not-worn m o small lent small-proper writing writing-fits some_path some_buffer (length-zeros _) (length-zeros _) in
       let a = k.otherwise some_path some_buffer l r n (first-few m o small lent small-proper writing writing-fits some_path some_buffer (length-zeros _) (length-zeros _)) in
-      let c : finish_checked m desk some_path some_buffer ≡ Done = finished-done (finish_checked m desk some_path some_buffer) _ a in
+      let c : finish_checked m desk some_path some_buffer ≡ Ok tt = finished-done (finish_checked m desk some_path some_buffer) _ a in
       let w = (k.writes some_path some_buffer l a 0 (omega arith)).counter in
       let f : counter_of (item_of (sizes_of desk) (invented_path m v some_path bs) 0) ≡ 1 =
-      sym (ap (λ (x : Outcome). counter_of (item_of (sizes_of desk) (kept_or x some_path (invented_path m v some_path bs)) 0)) c) ∙ w
+      sym (ap (λ (x : Result Unit Refusal). counter_of (item_of (sizes_of desk) (kept_or x some_path (invented_path m v some_path bs)) 0)) c) ∙ w
       ∙ ap (λ (x : Bool). cond x (counter_of (item_of (sizes_of desk) some_path 0) + 1) 1) unreached in
       not-one (invented_path m v some_path bs) (sizes_of desk) (first_byte v some_path bs v.sizes.height) f
     where
@@ -181,16 +179,16 @@ module _ (m : Means) where
       go (ask_of desk e.kind u x e.content).answer j (finish_then (zeroing m) desk u x e).answer (shows (zeroing m) (finish_then (zeroing m) desk u x e).desk us xs es)
       (λ i. shows-zero (finish_then (zeroing m) desk u x e).desk us xs es i)
     where
-      rest : (a : Finished) (more : List ℕ) → ((i : ℕ) → get_or more i 0 ≡ 0) → (i : ℕ) → get_or (go_on a more) i 0 ≡ 0
-      rest finished.Record more h i = h i
-      rest finished.Never more h i = h i
-      rest finished.Done more h i = h i
-      rest (finished.Refused q) more h i = refl
+      rest : (a : Result Finished Refusal) (more : List ℕ) → ((i : ℕ) → get_or more i 0 ≡ 0) → (i : ℕ) → get_or (go_on a more) i 0 ≡ 0
+      rest (Ok finished.Record) more h i = h i
+      rest (Ok finished.Never) more h i = h i
+      rest (Ok finished.Done) more h i = h i
+      rest (Err q) more h i = refl
 
-      go : (a : Asked) (j : ℕ) (b : Finished) (more : List ℕ) → ((i : ℕ) → get_or more i 0 ≡ 0) → get_or (shown_if (leaf_zero a) (λ p. p ∷ go_on b more)) j 0 ≡ 0
-      go (asked.Leaf p) zero b more h = refl
-      go (asked.Leaf p) (suc j) b more h = rest b more h j
-      go (asked.Refused q) j b more h = refl
+      go : (a : Result ℕ Refusal) (j : ℕ) (b : Result Finished Refusal) (more : List ℕ) → ((i : ℕ) → get_or more i 0 ≡ 0) → get_or (shown_if (leaf_zero a) (λ p. p ∷ go_on b more)) j 0 ≡ 0
+      go (Ok p) zero b more h = refl
+      go (Ok p) (suc j) b more h = rest b more h j
+      go (Err q) j b more h = refl
 
   pub zeroing-three : Sound m → DemandThree (zeroing m) (zeroing m)
   zeroing-three o n us vs e g h = (

@@ -1,8 +1,7 @@
 -- A text that is written from one store and read into another, both over an honest server: what the second then holds, by what the first holds. Assumes
 -- nothing.
-use Rattle.std.specs.Prelude.{ℕ, ◌+◌, ◌-◌, ◌<◌, ◌≤◌, ◌≡◌, ◌≢◌, ◌⊎◌, false, List, length, take}
+use Rattle.std.specs.Prelude.{ℕ, ◌+◌, ◌-◌, ◌<◌, ◌≤◌, ◌≡◌, ◌≢◌, ◌⊎◌, false, List, length, take, Ok}
 use Rattle.std.proofs.Math.Option.{Option, none, some}
-use Rattle.sizes.specs.declared.Outcome.TheVariants.{Done}
 use Rattle.sizes.specs.Sizes.{tree_len}
 use Rattle.slots.specs.Slots.{Bytes}
 use Rattle.items.specs.Real.{real}
@@ -73,7 +72,7 @@ pub record Carried : Type 0 where
       (CarriedTo chapter year first (end - first) first' ts.state.table ts'.state.table)
   -- into a fresh store, over a tree with any bytes
   pub fresh : (b : Start) (ts : TreeState) (chapter first end : ℕ) (o : Out b ts chapter first end)
-      → (b' : Start) → b'.room < 256 → (lent : List ℕ) → (format_for b' lent).answer ≡ Done → (tree : List ℕ) → length tree ≡ tree_len b'.sizes
+      → (b' : Start) → b'.room < 256 → (lent : List ℕ) → (format_for b' lent).answer ≡ Ok tt → (tree : List ℕ) → length tree ≡ tree_len b'.sizes
       → (year first' end' : ℕ) (draws : List ℕ) → end' - first' ≡ end - first
       → (read_of (format_for b' lent).desk tree chapter year first' end' draws (text_in o)).answer ≡ taken.Done
       → Leaves b' (read_of (format_for b' lent).desk tree chapter year first' end' draws (text_in o)).desk

@@ -1,9 +1,8 @@
 -- Demand 3 with rows of the verdict book and texts of TAP among the requests: each asks for the leaves of its range, one after the other, whatever it
 -- finds there and whatever the text says. Assumes nothing.
-use Rattle.std.specs.Prelude.{ℕ, suc, ◌+◌, ◌-◌, ◌<◌, ◌≡◌, Bool, List, [], ◌∷◌, ◌++◌, length, get_or, take, drop}
+use Rattle.sizes.specs.declared.Refusal.{Refusal}
+use Rattle.std.specs.Prelude.{ℕ, suc, ◌+◌, ◌-◌, ◌<◌, ◌≡◌, Bool, List, [], ◌∷◌, ◌++◌, length, get_or, take, drop, Err, Ok, Result}
 use Rattle.words.specs.Bytes.{splice, zeros}
-use Rattle.sizes.specs.declared.Outcome.{Outcome}
-use Rattle.sizes.specs.declared.Outcome.TheVariants as outcome
 use Rattle.sizes.specs.Sizes.{record_len, path_len}
 use Rattle.desk.specs.declared.Kind.TheVariants.{Read}
 use Rattle.desk.specs.Readers.{sizes_of}
@@ -40,9 +39,9 @@ reads_show id (x ∷ xs) desk tree path buffer =
     let r = request_of desk tree path buffer Read id x in
     leaf_asked r.answer (reads_show (suc id) xs r.desk r.tree r.path r.buffer)
 
-abbrev pub row_shows_by : Outcome → List ℕ → List ℕ → ℕ → List ℕ → List ℕ
-row_shows_by (outcome.Refused q) desk tree first draws = []
-row_shows_by outcome.Done desk tree first draws = reads_show first draws desk tree (zeros (path_len (sizes_of desk))) (zeros record_len)
+abbrev pub row_shows_by : Result Unit Refusal → List ℕ → List ℕ → ℕ → List ℕ → List ℕ
+row_shows_by (Err q) desk tree first draws = []
+row_shows_by (Ok tt) desk tree first draws = reads_show first draws desk tree (zeros (path_len (sizes_of desk))) (zeros record_len)
 
 abbrev pub row_shows : List ℕ → List ℕ → ℕ → ℕ → List ℕ → List ℕ
 row_shows desk tree first end draws = row_shows_by (row_checked desk tree first end draws) desk tree first draws
@@ -65,17 +64,17 @@ text_shows (took.Bad trouble line) desk tree first draws sheet = []
 abbrev pub taken_shows : TextResult → List ℕ → List ℕ → ℕ → List ℕ → List ℕ
 taken_shows r desk tree first draws = text_shows r.answer desk tree first draws r.sheet
 
-abbrev pub tap_in_shows_by : Outcome → List ℕ → List ℕ → ℕ → ℕ → ℕ → ℕ → List ℕ → List ℕ → List ℕ
-tap_in_shows_by (outcome.Refused q) desk tree chapter year first end draws text = []
-tap_in_shows_by outcome.Done desk tree chapter year first end draws text = taken_shows (take_of chapter year (end - first) text) desk tree first draws
+abbrev pub tap_in_shows_by : Result Unit Refusal → List ℕ → List ℕ → ℕ → ℕ → ℕ → ℕ → List ℕ → List ℕ → List ℕ
+tap_in_shows_by (Err q) desk tree chapter year first end draws text = []
+tap_in_shows_by (Ok tt) desk tree chapter year first end draws text = taken_shows (take_of chapter year (end - first) text) desk tree first draws
 
 abbrev pub tap_in_shows : List ℕ → List ℕ → ℕ → ℕ → ℕ → ℕ → List ℕ → List ℕ → List ℕ
 tap_in_shows desk tree chapter year first end draws text = tap_in_shows_by (row_checked desk tree first end draws) desk tree chapter year first end draws text
 
 -- a text that is written
-abbrev pub tap_out_shows_by : Outcome → List ℕ → List ℕ → ℕ → ℕ → List ℕ → List ℕ
-tap_out_shows_by (outcome.Refused q) desk tree first end draws = []
-tap_out_shows_by outcome.Done desk tree first end draws = sheet_shows desk tree first draws (empty_sheet (end - first))
+abbrev pub tap_out_shows_by : Result Unit Refusal → List ℕ → List ℕ → ℕ → ℕ → List ℕ → List ℕ
+tap_out_shows_by (Err q) desk tree first end draws = []
+tap_out_shows_by (Ok tt) desk tree first end draws = sheet_shows desk tree first draws (empty_sheet (end - first))
 
 abbrev pub tap_out_shows : List ℕ → List ℕ → ℕ → ℕ → List ℕ → List ℕ → List ℕ
 tap_out_shows desk tree first end draws out = tap_out_shows_by (write_checked desk tree first end draws out) desk tree first end draws

@@ -1,12 +1,10 @@
 -- Demand 3: what is shown does not depend on what is asked for. Two lists of ids of one length show the same leaves, once the draws are rearranged by
 -- the ids alone. Assumes nothing.
-use Rattle.std.specs.Prelude.{ℕ, pred, ◌+◌, ◌<◌, ◌≡◌, ◌≢◌, length, get_or, take, drop}
+use Rattle.sizes.specs.declared.Refusal.{Refusal}
+use Rattle.std.specs.Prelude.{ℕ, pred, ◌+◌, ◌<◌, ◌≡◌, ◌≢◌, length, get_or, take, drop, Err, Result, Ok}
 use mathlib.Core.List.{List, [], ◌∷◌, Permᴰ}
-use Rattle.sizes.specs.declared.Outcome.TheVariants.{Done}
 use Rattle.desk.specs.declared.Kind.{Kind}
 use Rattle.draws.specs.Draws.{AllGood, leaves_shown, last_drawn, from, indices, unshown, rearrange, rearranged}
-use Rattle.asks.specs.declared.Asked.{Asked}
-use Rattle.asks.specs.declared.Asked.TheVariants as asked
 use Rattle.store.specs.declared.Finished.{Finished}
 use Rattle.store.specs.declared.Finished.TheVariants as finished
 use Rattle.store.specs.Finish.{FinishResult}
@@ -27,15 +25,15 @@ abbrev pub finish_then : Store → List ℕ → ℕ → ℕ → Around → Finis
 finish_then store desk u x e = store.finish (asked_desk store desk u x e) e.path e.buffer
 
 -- a run ends at its first refusal
-abbrev pub shown_if : Asked → (ℕ → List ℕ) → List ℕ
-shown_if (asked.Leaf p) more = more p
-shown_if (asked.Refused q) more = []
+abbrev pub shown_if : Result ℕ Refusal → (ℕ → List ℕ) → List ℕ
+shown_if (Ok p) more = more p
+shown_if (Err q) more = []
 
-abbrev pub go_on : Finished → List ℕ → List ℕ
-go_on finished.Record more = more
-go_on finished.Never more = more
-go_on finished.Done more = more
-go_on (finished.Refused q) more = []
+abbrev pub go_on : Result Finished Refusal → List ℕ → List ℕ
+go_on (Ok finished.Record) more = more
+go_on (Ok finished.Never) more = more
+go_on (Ok finished.Done) more = more
+go_on (Err q) more = []
 
 -- the leaves that a run shows: from a desk, for ids, with a draw for each, in these surroundings. Each request is an ask, whose answer is shown, and
 -- a finish
@@ -55,7 +53,7 @@ pub record Run (n : ℕ) (draws : List ℕ) : Type 0 where
   pub byte : start.room < 256
   pub starts : start.starts ≡ take n draws
   pub lent : List ℕ
-  pub formats : (format_for start lent).answer ≡ Done
+  pub formats : (format_for start lent).answer ≡ Ok tt
   pub around : List Around
 
 abbrev pub leaves_of : Store → (n : ℕ) (us draws : List ℕ) → Run n draws → List ℕ

@@ -1,5 +1,5 @@
 -- Demand 2: a store over an honest server is a plain table. Assumes nothing.
-use Rattle.std.specs.Prelude.{ℕ, suc, ◌+◌, ◌-◌, ◌<◌, ◌≤◌, ◌≡◌, ◌≢◌, ◌↔◌, true, cond, List, [], ◌++◌, length, get_or}
+use Rattle.std.specs.Prelude.{ℕ, suc, ◌+◌, ◌-◌, ◌<◌, ◌≤◌, ◌≡◌, ◌≢◌, ◌↔◌, true, cond, List, [], ◌++◌, length, get_or, Err, Ok}
 use Rattle.std.proofs.Math.Option.{none, some}
 use Rattle.sizes.specs.declared.Refusal.TheVariants.{Forged, Worn, Full}
 use Rattle.sizes.specs.Sizes.{record_len, leaves, item_of, path_len, bucket_at}
@@ -13,7 +13,6 @@ use Rattle.items.specs.Items.{Means, counter_of, flag_of, digest_of, item_digest
 use Rattle.items.specs.Way.{reachable}
 use Rattle.opening.specs.Opening.{view_of, is_id, last_counter, Reach, Genuine}
 use Rattle.writing.specs.Writing.{new_flag, new_digest}
-use Rattle.asks.specs.declared.Asked.TheVariants as asked
 use Rattle.asks.specs.Ask.{record_fits, record_bytes}
 use Rattle.store.specs.declared.Finished.TheVariants as finished
 use Rattle.store.specs.Steps.{placed, new_stash}
@@ -38,11 +37,11 @@ WornOut m desk path = (k : ℕ) × Reach m desk path k × (counter_of (item_of (
 -- the refusals of an open desk: `Genuine` (opening/specs) has one field for each check of step 2
 pub record Exactly (m : Means) (store : Store) : Type 0 where
   pub forged : (desk path buffer : List ℕ) → Ready desk path buffer
-      → ((store.finish desk path buffer).answer ≡ finished.Refused Forged) ↔ (Genuine m desk path → ⊥)
+      → ((store.finish desk path buffer).answer ≡ Err Forged) ↔ (Genuine m desk path → ⊥)
   pub worn : (desk path buffer : List ℕ) → Ready desk path buffer → Genuine m desk path
-      → ((store.finish desk path buffer).answer ≡ finished.Refused Worn) ↔ WornOut m desk path
+      → ((store.finish desk path buffer).answer ≡ Err Worn) ↔ WornOut m desk path
   pub full : (desk path buffer : List ℕ) → Ready desk path buffer → Genuine m desk path
-      → ((store.finish desk path buffer).answer ≡ finished.Refused Full)
+      → ((store.finish desk path buffer).answer ≡ Err Full)
       ↔ ((WornOut m desk path → ⊥) × (room_of desk < length (new_stash m desk path)))
   pub otherwise : (desk path buffer : List ℕ) → Ready desk path buffer → Genuine m desk path → (WornOut m desk path → ⊥)
       → length (new_stash m desk path) ≤ room_of desk → Accepted (store.finish desk path buffer).answer
@@ -90,14 +89,14 @@ pub record Kept (m : Means) (store : Store) (b : Start) (hands : List ℕ → Ty
   pub is_ready : status_of st.desk ≡ ready_status → st.open_request ≡ none
   -- at a ready desk an ask in range is accepted and answers the leaf last drawn for the id; no ask is answered by another leaf
   pub takes : status_of st.desk ≡ ready_status → (r : Request) → 1 ≤ r.id → r.id ≤ b.ids → r.leaf < leaves b.sizes
-      → record_fits record_len r.kind r.content ≡ true → (ask_for store st r).answer ≡ asked.Leaf (st.drawn r.id)
-  pub shows : (r : Request) (p : ℕ) → (ask_for store st r).answer ≡ asked.Leaf p → p ≡ st.drawn r.id
+      → record_fits record_len r.kind r.content ≡ true → (ask_for store st r).answer ≡ Ok (st.drawn r.id)
+  pub shows : (r : Request) (p : ℕ) → (ask_for store st r).answer ≡ Ok p → p ≡ st.drawn r.id
   -- finish over a path that may be handed back is never Forged; it is Worn and Full exactly by their rows, and else accepted
-  pub never_forged : (path buffer : List ℕ) → hands path → (finish_for store st path buffer).answer ≢ finished.Refused Forged
+  pub never_forged : (path buffer : List ℕ) → hands path → (finish_for store st path buffer).answer ≢ Err Forged
   pub worn : (path buffer : List ℕ) → hands path → Ready st.desk path buffer
-      → ((finish_for store st path buffer).answer ≡ finished.Refused Worn) ↔ WornOut m st.desk path
+      → ((finish_for store st path buffer).answer ≡ Err Worn) ↔ WornOut m st.desk path
   pub full : (path buffer : List ℕ) → hands path → Ready st.desk path buffer
-      → ((finish_for store st path buffer).answer ≡ finished.Refused Full)
+      → ((finish_for store st path buffer).answer ≡ Err Full)
       ↔ ((WornOut m st.desk path → ⊥) × (b.room < length (new_stash m st.desk path)))
   pub otherwise : (path buffer : List ℕ) → hands path → Ready st.desk path buffer
       → (WornOut m st.desk path → ⊥) → length (new_stash m st.desk path) ≤ b.room → Accepted (finish_for store st path buffer).answer

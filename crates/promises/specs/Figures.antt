@@ -1,5 +1,5 @@
 -- The paper's worked figures that are marked P: one table of the definitions, one statement. Assumes nothing.
-use Rattle.std.specs.Prelude.{ℕ, ◌≡◌, List, [], ◌∷◌}
+use Rattle.std.specs.Prelude.{ℕ, ◌≡◌, List, [], ◌∷◌, Err}
 use Rattle.sizes.specs.declared.Refusal.TheVariants.{Full}
 use Rattle.sizes.specs.Sizes.{sized}
 use Rattle.sizes.specs.Figures.{SizeFigures}
@@ -42,6 +42,6 @@ pub record Figures (m : Means) (store : Store) : Type 0 where
   pub placing : PlacingFigures
   -- S = 1 accepts, S = 0 gives Full
   pub one_accepts : (desk path buffer : List ℕ) → PlacesFour m desk path buffer → room_of desk ≡ 1 → Accepted (store.finish desk path buffer).answer
-  pub none_full : (desk path buffer : List ℕ) → PlacesFour m desk path buffer → room_of desk ≡ 0 → (store.finish desk path buffer).answer ≡ finished.Refused Full
+  pub none_full : (desk path buffer : List ℕ) → PlacesFour m desk path buffer → room_of desk ≡ 0 → (store.finish desk path buffer).answer ≡ Err Full
   -- the leaves asked for, and the rearrangement
   pub draws : DrawFigures

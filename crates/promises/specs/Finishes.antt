@@ -1,9 +1,8 @@
 -- Laws of one call, on every desk and whatever path comes back: a good desk stays good; what one finish reads, and what it leaves. S is a byte. Assumes
 -- nothing.
-use Rattle.std.specs.Prelude.{ℕ, ◌<◌, ◌≤◌, ◌≡◌, ◌≢◌, true, List, [], ◌∷◌, length}
+use Rattle.std.specs.Prelude.{ℕ, ◌<◌, ◌≤◌, ◌≡◌, ◌≢◌, true, List, [], ◌∷◌, length, Err, Ok}
 use Rattle.sizes.specs.declared.Refusal.{Refusal}
 use Rattle.sizes.specs.declared.Refusal.TheVariants.{Worn, Full}
-use Rattle.sizes.specs.declared.Outcome.TheVariants.{Done}
 use Rattle.sizes.specs.Refusals.{number_of}
 use Rattle.sizes.specs.Sizes.{record_len}
 use Rattle.bags.specs.Bags.{those}
@@ -24,7 +23,7 @@ use Rattle.promises.specs.Stores.{Store, Start, format_for, Accepted}
 -- ---- format writes a good desk, ask and finish keep it good, refused or not
 
 pub record KeepsGood (store : Store) : Type 0 where
-  pub format : (b : Start) (lent : List ℕ) → (format_for b lent).answer ≡ Done → good_desk (format_for b lent).desk ≡ true
+  pub format : (b : Start) (lent : List ℕ) → (format_for b lent).answer ≡ Ok tt → good_desk (format_for b lent).desk ≡ true
   pub ask : (desk : List ℕ) (kind : Kind) (id leaf : ℕ) (rec : List ℕ) → good_desk desk ≡ true → good_desk (store.ask desk kind id leaf rec).desk ≡ true
   pub finish : (desk path buffer : List ℕ) → room_of desk < 256 → good_desk desk ≡ true → good_desk (store.finish desk path buffer).desk ≡ true
 
@@ -70,11 +69,11 @@ pub record HandsBack (m : Means) (desk path buffer : List ℕ) : Type 0 where
 pub record EachFinish (m : Means) (store : Store) : Type 0 where
   pub unlooked : Unlooked store
   pub leaves : (desk path buffer : List ℕ) → room_of desk < 256 → Accepted (store.finish desk path buffer).answer → Leaves m desk path (store.finish desk path buffer).desk
-  pub hands_back : (desk path buffer : List ℕ) → room_of desk < 256 → (store.finish desk path buffer).answer ≡ finished.Record
+  pub hands_back : (desk path buffer : List ℕ) → room_of desk < 256 → (store.finish desk path buffer).answer ≡ Ok finished.Record
       → HandsBack m desk path (store.finish desk path buffer).buffer
   -- Worn and Full are said of genuine paths only. They leave the old tree valid: neither path nor tree is written, and with the status byte put back the
   -- desk is the old one
-  pub worn_genuine : (desk path buffer : List ℕ) → (store.finish desk path buffer).answer ≡ finished.Refused Worn → Genuine m desk path
-  pub full_genuine : (desk path buffer : List ℕ) → (store.finish desk path buffer).answer ≡ finished.Refused Full → Genuine m desk path
-  pub restored : (desk path buffer : List ℕ) (q : Refusal) → 9 ≤ number_of q → (store.finish desk path buffer).answer ≡ finished.Refused q
+  pub worn_genuine : (desk path buffer : List ℕ) → (store.finish desk path buffer).answer ≡ Err Worn → Genuine m desk path
+  pub full_genuine : (desk path buffer : List ℕ) → (store.finish desk path buffer).answer ≡ Err Full → Genuine m desk path
+  pub restored : (desk path buffer : List ℕ) (q : Refusal) → 9 ≤ number_of q → (store.finish desk path buffer).answer ≡ Err q
       → (at_status open_status (store.finish desk path buffer).desk ≡ desk) × ((store.finish desk path buffer).path ≡ path)

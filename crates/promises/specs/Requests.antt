@@ -1,6 +1,6 @@
 -- One whole request: ask, fetch, finish and put as one call against a lent tree. It is what the demands say of its steps, so the plain table answers it.
 -- Assumes nothing.
-use Rattle.std.specs.Prelude.{ℕ, ◌<◌, ◌≡◌, ◌≢◌, List}
+use Rattle.std.specs.Prelude.{ℕ, ◌<◌, ◌≡◌, ◌≢◌, List, Err, Ok, Result}
 use Rattle.sizes.specs.declared.Refusal.{Refusal}
 use Rattle.sizes.specs.declared.Refusal.TheVariants.{Forged}
 use Rattle.desk.specs.declared.Kind.{Kind}
@@ -26,18 +26,18 @@ two_turns b ts path buffer kind id leaf =
     turn (ours real) b.sizes (turn (ours real) b.sizes ts (asking (as_request kind id leaf buffer))) (serving path buffer)
 
 -- the plain table after a request whose finish answered so: a refused one leaves it
-abbrev pub table_as : Finished → Kind → ℕ → List ℕ → Table → Table
-table_as finished.Record kind id content table = plain_table kind id content table
-table_as finished.Never kind id content table = plain_table kind id content table
-table_as finished.Done kind id content table = plain_table kind id content table
-table_as (finished.Refused q) kind id content table = table
+abbrev pub table_as : Result Finished Refusal → Kind → ℕ → List ℕ → Table → Table
+table_as (Ok finished.Record) kind id content table = plain_table kind id content table
+table_as (Ok finished.Never) kind id content table = plain_table kind id content table
+table_as (Ok finished.Done) kind id content table = plain_table kind id content table
+table_as (Err q) kind id content table = table
 
 -- what it comes to, where it asked for leaf p and its finish answered f
-pub record AsTurns (b : Start) (ts : TreeState) (path buffer : List ℕ) (kind : Kind) (id leaf p : ℕ) (f : Finished) : Type 0 where
+pub record AsTurns (b : Start) (ts : TreeState) (path buffer : List ℕ) (kind : Kind) (id leaf p : ℕ) (f : Result Finished Refusal) : Type 0 where
   -- the leaf is the one last drawn for the id
   pub shows : p ≡ ts.state.drawn id
   -- the path from the tree is never Forged; an accepted finish answers as the plain table does, and the record buffer holds what the table's would
-  pub never_forged : f ≢ finished.Refused Forged
+  pub never_forged : f ≢ Err Forged
   pub plain : Accepted f → (f ≡ plain_answer kind (ts.state.table id)) × ((request_for ts path buffer kind id leaf).buffer ≡ plain_buffer kind (ts.state.table id) buffer)
   -- the state between the two turns is reached, so that demand 2 says of it when the finish is Worn or Full
   pub middle : TreeReached (ours real) b (turn (ours real) b.sizes ts (asking (as_request kind id leaf buffer)))
@@ -54,5 +54,5 @@ pub record WholeRequests : Type 0 where
       → (request_of desk tree path buffer kind id leaf).answer ≡ answered.Refused q
       → ((request_of desk tree path buffer kind id leaf).desk ≡ desk) × ((request_of desk tree path buffer kind id leaf).tree ≡ tree)
       × ((request_of desk tree path buffer kind id leaf).path ≡ path) × ((request_of desk tree path buffer kind id leaf).buffer ≡ buffer)
-  pub as_turns : (b : Start) → b.room < 256 → (ts : TreeState) → TreeReached (ours real) b ts → (path buffer : List ℕ) (kind : Kind) (id leaf p : ℕ) (f : Finished)
+  pub as_turns : (b : Start) → b.room < 256 → (ts : TreeState) → TreeReached (ours real) b ts → (path buffer : List ℕ) (kind : Kind) (id leaf p : ℕ) (f : Result Finished Refusal)
       → (request_for ts path buffer kind id leaf).answer ≡ answered.Asked p f → AsTurns b ts path buffer kind id leaf p f

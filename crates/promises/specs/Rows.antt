@@ -1,9 +1,8 @@
 -- Rows of the verdict book. Over an honest server a row is the plain table's own row; on every input its six counts add up. Assumes nothing.
-use Rattle.std.specs.Prelude.{ℕ, zero, suc, ◌+◌, ◌-◌, ◌<◌, ◌≤◌, ◌≡◌, ◌≢◌, ◌↔◌, ◌⊎◌, Bool, true, false, List, [], ◌∷◌, length, get_or}
+use Rattle.std.specs.Prelude.{ℕ, zero, suc, ◌+◌, ◌-◌, ◌<◌, ◌≤◌, ◌≡◌, ◌≢◌, ◌↔◌, ◌⊎◌, Bool, true, false, List, [], ◌∷◌, length, get_or, Err, Ok}
 use Rattle.std.proofs.Math.Option.{Option, none, some}
 use Rattle.sizes.specs.declared.Refusal.{Refusal}
 use Rattle.sizes.specs.declared.Refusal.TheVariants.{Forged, Worn, Full}
-use Rattle.sizes.specs.declared.Outcome.TheVariants as outcome
 use Rattle.sizes.specs.Sizes.{leaves, tree_len}
 use Rattle.desk.specs.declared.Kind.TheVariants.{Read}
 use Rattle.desk.specs.Readers.{status_of}
@@ -73,7 +72,7 @@ AllLeaves b draws = (i : ℕ) → i < length draws → get_or draws i 0 < leaves
 -- a row may begin: its desk is ready, its own checks refuse nothing, and its draws are leaves
 pub record MayBegin (b : Start) (ts : TreeState) (first end : ℕ) (draws : List ℕ) : Type 0 where
   pub ready : status_of ts.state.desk ≡ ready_status
-  pub checked : row_checked ts.state.desk ts.tree first end draws ≡ outcome.Done
+  pub checked : row_checked ts.state.desk ts.tree first end draws ≡ Ok tt
   pub all_leaves : AllLeaves b draws
 
 pub record HonestRows : Type 0 where
@@ -102,8 +101,8 @@ pub record AnyRow : Type 0 where
       → (row_of desk tree chapter first end draws).answer ≡ Counted c complete
       → (sum c ≡ end - first) × ((complete ≡ true) ↔ (c.passed ≡ end - first))
   -- a refusal before any ask changes nothing
-  pub refuses : (desk tree : List ℕ) (chapter first end : ℕ) (draws : List ℕ) (q : Refusal) → row_checked desk tree first end draws ≡ outcome.Refused q
+  pub refuses : (desk tree : List ℕ) (chapter first end : ℕ) (draws : List ℕ) (q : Refusal) → row_checked desk tree first end draws ≡ Err q
       → ((row_of desk tree chapter first end draws).answer ≡ Refused q) × ((row_of desk tree chapter first end draws).desk ≡ desk)
       × ((row_of desk tree chapter first end draws).tree ≡ tree)
   -- a read is never answered by Done: so the column that `found_of` gives to Done stands for no read
-  pub never_done : (desk tree path buffer : List ℕ) (id draw p : ℕ) → (request_of desk tree path buffer Read id draw).answer ≢ answered.Asked p finished.Done
+  pub never_done : (desk tree path buffer : List ℕ) (id draw p : ℕ) → (request_of desk tree path buffer Read id draw).answer ≢ answered.Asked p (Ok finished.Done)

@@ -1,11 +1,9 @@
 -- A desk from format that only asks and finishes change, and beside it a member's own book of it. Assumes nothing.
-use Rattle.std.specs.Prelude.{ℕ, ◌-◌, ◌≡◌, cond, List, [], ◌∷◌, get_or, eqb}
+use Rattle.sizes.specs.declared.Refusal.{Refusal}
+use Rattle.std.specs.Prelude.{ℕ, ◌-◌, ◌≡◌, cond, List, [], ◌∷◌, get_or, eqb, Err, Result, Ok}
 use Rattle.std.proofs.Math.Option.{Option, none, some}
 use Rattle.sizes.specs.declared.Sizes.{Sizes}
-use Rattle.sizes.specs.declared.Outcome.TheVariants.{Done}
 use Rattle.opening.specs.Opening.{view_of}
-use Rattle.asks.specs.declared.Asked.{Asked}
-use Rattle.asks.specs.declared.Asked.TheVariants as asked
 use Rattle.asks.specs.Ask.{AskResult}
 use Rattle.store.specs.declared.Finished.{Finished}
 use Rattle.store.specs.declared.Finished.TheVariants as finished
@@ -63,8 +61,8 @@ only_desk st desk =
     }
 
 -- an accepted ask opens the request: its draw is the id's last from now on
-abbrev pub after_ask : State → Request → Asked → List ℕ → State
-after_ask st r (asked.Leaf p) desk =
+abbrev pub after_ask : State → Request → Result ℕ Refusal → List ℕ → State
+after_ask st r (Ok p) desk =
     record {
       desk = desk;
       server = st.server;
@@ -73,7 +71,7 @@ after_ask st r (asked.Leaf p) desk =
       open_request = some r;
       asked_leaf = p;
     }
-after_ask st r (asked.Refused q) desk = only_desk st desk
+after_ask st r (Err q) desk = only_desk st desk
 
 -- an accepted finish closes it: the path is written, and the table changes as a plain table does
 abbrev pub table_done : Option Request → Table → Table
@@ -91,11 +89,11 @@ accepted s st f =
       asked_leaf = st.asked_leaf;
     }
 
-abbrev pub after_finish : Sizes → State → Finished → FinishResult → State
-after_finish s st finished.Record f = accepted s st f
-after_finish s st finished.Never f = accepted s st f
-after_finish s st finished.Done f = accepted s st f
-after_finish s st (finished.Refused q) f = only_desk st f.desk
+abbrev pub after_finish : Sizes → State → Result Finished Refusal → FinishResult → State
+after_finish s st (Ok finished.Record) f = accepted s st f
+after_finish s st (Ok finished.Never) f = accepted s st f
+after_finish s st (Ok finished.Done) f = accepted s st f
+after_finish s st (Err q) f = only_desk st f.desk
 
 abbrev pub after : Store → Sizes → State → Event → State
 after store s st (asks r) = after_ask st r (ask_for store st r).answer (ask_for store st r).desk
@@ -131,7 +129,7 @@ AllFair hands store s st (e ∷ es) = Fair hands store st e × AllFair hands sto
 
 pub record Reached (store : Store) (b : Start) (hands : Hands) (st : State) : Type 0 where
   pub lent : List ℕ
-  pub formats : (format_for b lent).answer ≡ Done
+  pub formats : (format_for b lent).answer ≡ Ok tt
   pub events : List Event
   pub fair : AllFair hands store b.sizes (begin b lent) events
   pub here : run store b.sizes (begin b lent) events ≡ st

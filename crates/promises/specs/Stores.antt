@@ -1,5 +1,5 @@
 -- What the demands speak of: a store, what it is formatted with, and a request. Assumes nothing.
-use Rattle.std.specs.Prelude.{ℕ, ◌≢◌, List}
+use Rattle.std.specs.Prelude.{ℕ, ◌≢◌, List, Err, Result}
 use Rattle.sizes.specs.declared.Sizes.{Sizes}
 use Rattle.sizes.specs.declared.Refusal.{Refusal}
 use Rattle.desk.specs.declared.Kind.{Kind}
@@ -39,5 +39,5 @@ pub record Request : Type 0 where
   pub content : List ℕ
 
 -- an answer that is no refusal
-abbrev pub Accepted : Finished → Type 0
-Accepted a = (q : Refusal) → a ≢ finished.Refused q
+abbrev pub Accepted : Result Finished Refusal → Type 0
+Accepted a = (q : Refusal) → a ≢ Err q

@@ -1,11 +1,10 @@
 -- TAP in and out. Over an honest server a text that is read is what the plain table then holds, and a text that is written is what the table says; on every
 -- input a text that is refused changes nothing. Assumes nothing.
-use Rattle.std.specs.Prelude.{ℕ, zero, suc, ◌+◌, ◌-◌, ◌<◌, ◌≤◌, ◌≡◌, ◌≢◌, ◌⊎◌, cond, ◌&&◌, List, [], ◌∷◌, ◌++◌, length, leb, ltb}
+use Rattle.std.specs.Prelude.{ℕ, zero, suc, ◌+◌, ◌-◌, ◌<◌, ◌≤◌, ◌≡◌, ◌≢◌, ◌⊎◌, cond, ◌&&◌, List, [], ◌∷◌, ◌++◌, length, leb, ltb, Err, Ok}
 use Rattle.std.proofs.Math.Option.{Option, none, some}
 use Rattle.words.specs.Bytes.{splice, zeros}
 use Rattle.sizes.specs.declared.Refusal.{Refusal}
 use Rattle.sizes.specs.declared.Refusal.TheVariants.{Forged, Worn, Full}
-use Rattle.sizes.specs.declared.Outcome.TheVariants as outcome
 use Rattle.sizes.specs.Sizes.{record_len, tree_len}
 use Rattle.desk.specs.Readers.{status_of}
 use Rattle.desk.specs.Status.{ready_status}
@@ -81,7 +80,7 @@ pub record MayRead (b : Start) (ts : TreeState) (chapter year first end : ℕ) (
 -- a text may be written: the desk is ready, its own checks refuse nothing, and its draws are leaves
 pub record MayWrite (b : Start) (ts : TreeState) (first end : ℕ) (draws out : List ℕ) : Type 0 where
   pub ready : status_of ts.state.desk ≡ ready_status
-  pub checked : write_checked ts.state.desk ts.tree first end draws out ≡ outcome.Done
+  pub checked : write_checked ts.state.desk ts.tree first end draws out ≡ Ok tt
   pub all_leaves : AllLeaves b draws
 
 pub record HonestTaps : Type 0 where
@@ -132,15 +131,15 @@ pub record HonestTaps : Type 0 where
 
 pub record AnyTap : Type 0 where
   -- a refusal before any ask changes nothing
-  pub read_refuses : (desk tree : List ℕ) (chapter year first end : ℕ) (draws text : List ℕ) (q : Refusal) → row_checked desk tree first end draws ≡ outcome.Refused q
+  pub read_refuses : (desk tree : List ℕ) (chapter year first end : ℕ) (draws text : List ℕ) (q : Refusal) → row_checked desk tree first end draws ≡ Err q
       → ((read_of desk tree chapter year first end draws text).answer ≡ taken.Refused q) × ((read_of desk tree chapter year first end draws text).desk ≡ desk)
       × ((read_of desk tree chapter year first end draws text).tree ≡ tree)
-  pub write_refuses : (desk tree : List ℕ) (chapter first end : ℕ) (draws out : List ℕ) (q : Refusal) → write_checked desk tree first end draws out ≡ outcome.Refused q
+  pub write_refuses : (desk tree : List ℕ) (chapter first end : ℕ) (draws out : List ℕ) (q : Refusal) → write_checked desk tree first end draws out ≡ Err q
       → ((write_of desk tree chapter first end draws out).answer ≡ printed.Refused q) × ((write_of desk tree chapter first end draws out).desk ≡ desk)
       × ((write_of desk tree chapter first end draws out).tree ≡ tree)
   -- a text that is refused leaves the store as it was: no ask has come
   pub bad_text : (desk tree : List ℕ) (chapter year first end : ℕ) (draws text : List ℕ) (t : Trouble) (line : ℕ)
-      → row_checked desk tree first end draws ≡ outcome.Done → (take_of chapter year (end - first) text).answer ≡ took.Bad t line
+      → row_checked desk tree first end draws ≡ Ok tt → (take_of chapter year (end - first) text).answer ≡ took.Bad t line
       → ((read_of desk tree chapter year first end draws text).answer ≡ taken.Bad t line) × ((read_of desk tree chapter year first end draws text).desk ≡ desk)
       × ((read_of desk tree chapter year first end draws text).tree ≡ tree)
   -- a refusal hands out no text: the buffer is as it was

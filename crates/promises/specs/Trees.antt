@@ -1,8 +1,8 @@
 -- Demand 2 with the server's own entries: each path comes from fetch and goes back by put, over a tree that held anything before. Assumes nothing.
-use Rattle.std.specs.Prelude.{ℕ, ◌<◌, ◌≤◌, ◌≡◌, List, [], ◌∷◌, ◌++◌, length}
+use Rattle.sizes.specs.declared.Refusal.{Refusal}
+use Rattle.std.specs.Prelude.{ℕ, ◌<◌, ◌≤◌, ◌≡◌, List, [], ◌∷◌, ◌++◌, length, Err, Result, Ok}
 use Rattle.std.proofs.Math.Option.{some}
 use Rattle.sizes.specs.declared.Sizes.{Sizes}
-use Rattle.sizes.specs.declared.Outcome.TheVariants.{Done}
 use Rattle.sizes.specs.Sizes.{path_len, bucket_no, bucket_in, tree_len}
 use Rattle.bags.specs.Bags.{those}
 use Rattle.slots.specs.Slots.{Block}
@@ -32,11 +32,11 @@ pub data Turn : Type 0 where
 abbrev pub fetch_for : Sizes → TreeState → List ℕ → List ℕ
 fetch_for s ts lent = (fetch_of s ts.state.asked_leaf ts.tree lent).path
 
-abbrev pub put_if : Finished → List ℕ → List ℕ → List ℕ
-put_if finished.Record new old = new
-put_if finished.Never new old = new
-put_if finished.Done new old = new
-put_if (finished.Refused q) new old = old
+abbrev pub put_if : Result Finished Refusal → List ℕ → List ℕ → List ℕ
+put_if (Ok finished.Record) new old = new
+put_if (Ok finished.Never) new old = new
+put_if (Ok finished.Done) new old = new
+put_if (Err q) new old = old
 
 abbrev pub served : Store → Sizes → TreeState → List ℕ → List ℕ → TreeState
 served store s ts path buffer =
@@ -58,7 +58,7 @@ turns store s ts (t ∷ more) = turns store s (turn store s ts t) more
 -- the states that a formatted desk and any tree of the right length get to
 pub record TreeReached (store : Store) (b : Start) (ts : TreeState) : Type 0 where
   pub lent : List ℕ
-  pub formats : (format_for b lent).answer ≡ Done
+  pub formats : (format_for b lent).answer ≡ Ok tt
   pub tree : List ℕ
   pub size : length tree ≡ tree_len b.sizes
   pub taken : List Turn

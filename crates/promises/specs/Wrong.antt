@@ -1,5 +1,6 @@
 -- Six wrong stores, to try the demands on: demand 2 shuts out each. Assumes nothing.
-use Rattle.std.specs.Prelude.{ℕ, zero, suc, ◌-◌, Bool, true, false, List, [], ◌∷◌, ◌++◌, get_or, eqb}
+use Rattle.sizes.specs.declared.Refusal.{Refusal}
+use Rattle.std.specs.Prelude.{ℕ, zero, suc, ◌-◌, Bool, true, false, List, [], ◌∷◌, ◌++◌, get_or, eqb, Err, Ok, Result}
 use Rattle.sizes.specs.declared.Refusal.TheVariants.{BadDesk}
 use Rattle.sizes.specs.Refusals.{kept_or}
 use Rattle.desk.specs.Readers.{kind_asked, written_of}
@@ -11,8 +12,6 @@ use Rattle.items.specs.Items.{Means, item_digest, sealed}
 use Rattle.items.specs.Way.{bucket}
 use Rattle.opening.specs.Opening.{view_of}
 use Rattle.writing.specs.Writing.{new_flag, new_digest}
-use Rattle.asks.specs.declared.Asked.{Asked}
-use Rattle.asks.specs.declared.Asked.TheVariants as asked
 use Rattle.asks.specs.Ask.{ask_result, ask_of}
 use Rattle.store.specs.declared.Finished.TheVariants as finished
 use Rattle.store.specs.Steps.{answer_for, was_marked, placed, new_desk}
@@ -25,8 +24,8 @@ use Rattle.promises.specs.DemandThree.{DemandThree}
 abbrev pub refusing : Store
 refusing =
     record {
-      ask = λ desk kind id leaf rec. ask_result (asked.Refused BadDesk) desk;
-      finish = λ desk path buffer. record { answer = finished.Refused BadDesk; desk = desk; path = path; buffer = buffer };
+      ask = λ desk kind id leaf rec. ask_result (Err BadDesk) desk;
+      finish = λ desk path buffer. record { answer = Err BadDesk; desk = desk; path = path; buffer = buffer };
     }
 
 -- answers Never always
@@ -35,7 +34,7 @@ denying m =
     record {
       ask = ask_of;
       finish = λ desk path buffer.
-          record { answer = finished.Never; desk = (finish_of m desk path buffer).desk; path = (finish_of m desk path buffer).path; buffer = buffer };
+          record { answer = (Ok finished.Never); desk = (finish_of m desk path buffer).desk; path = (finish_of m desk path buffer).path; buffer = buffer };
     }
 
 -- answers as it should, and changes nothing
@@ -106,9 +105,9 @@ inventing m =
     }
 
 -- asks for leaf 0 always
-abbrev pub leaf_zero : Asked → Asked
-leaf_zero (asked.Leaf p) = asked.Leaf 0
-leaf_zero (asked.Refused q) = asked.Refused q
+abbrev pub leaf_zero : Result ℕ Refusal → Result ℕ Refusal
+leaf_zero (Ok p) = Ok 0
+leaf_zero (Err q) = Err q
 
 abbrev pub zeroing : Means → Store
 zeroing m =

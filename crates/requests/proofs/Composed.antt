@@ -1,4 +1,5 @@
 -- The steps of a request, put together: what ask, fetch, finish and put are known for gives what the request is. Assumes nothing.
+use Rattle.std.specs.Prelude.{Err, Ok, Result}
 use Prim.Native.Nat.{ℕ, ◌≤◌}
 use mathlib.Core.Path.{◌≡◌, sym, ap, ◌∙◌}
 use mathlib.Core.Bool.{Bool, true, false}
@@ -7,15 +8,11 @@ use lib.ListN.{length}
 use native.Mathlib.Omega.{arith}
 use Rattle.sizes.specs.declared.Sizes.{Sizes}
 use Rattle.sizes.specs.declared.Refusal.{Refusal}
-use Rattle.sizes.specs.declared.Outcome.{Outcome}
-use Rattle.sizes.specs.declared.Outcome.TheVariants.{Done, Refused}
 use Rattle.desk.specs.declared.Kind.{Kind}
 use Rattle.desk.specs.Layout.{b_at}
 use Rattle.desk.specs.Readers.{sizes_of}
 use Rattle.desk.proofs.Known.{known}
 use Rattle.tree.specs.Tree as trees
-use Rattle.asks.specs.declared.Asked.{Asked}
-use Rattle.asks.specs.declared.Asked.TheVariants as asked
 use Rattle.asks.specs.Ask as ask
 use Rattle.asks.proofs.Answers.{ask-leaf}
 use Rattle.items.specs.Real.{real}
@@ -27,11 +24,11 @@ use Rattle.requests.specs.Request.{RequestResult, requested, is_refused, put_unl
 
 -- ---- finish, then put
 
-module _ (s : Sizes) (leaf : ℕ) (tree : List ℕ) {a : Finished} {d p b : List ℕ} {f : finish.FinishResult} (e : finish.finish_result a d p b ≡ f) where
+module _ (s : Sizes) (leaf : ℕ) (tree : List ℕ) {a : Result Finished Refusal} {d p b : List ℕ} {f : finish.FinishResult} (e : finish.finish_result a d p b ≡ f) where
   with-tree : {x : List ℕ} → x ≡ put_unless (is_refused a) tree (trees.put_of s leaf tree p).tree → requested (answered.Asked leaf a) d x p b ≡ returned s leaf tree f
   with-tree h = ap (λ (t : List ℕ). requested (answered.Asked leaf a) d t p b) h ∙ ap (returned s leaf tree) e
 
-  pub returned-put : {o : Outcome} {t : List ℕ} → is_refused a ≡ false → trees.tree_result o t p ≡ trees.put_of s leaf tree p → requested (answered.Asked leaf a) d t p b ≡ returned s leaf tree f
+  pub returned-put : {o : Result Unit Refusal} {t : List ℕ} → is_refused a ≡ false → trees.tree_result o t p ≡ trees.put_of s leaf tree p → requested (answered.Asked leaf a) d t p b ≡ returned s leaf tree f
   returned-put q h =
       with-tree (ap (λ (r : trees.TreeResult). r.tree) h ∙ sym (ap (λ (x : Bool). put_unless x tree (trees.put_of s leaf tree p).tree) q))
 
@@ -40,28 +37,28 @@ module _ (s : Sizes) (leaf : ℕ) (tree : List ℕ) {a : Finished} {d p b : List
 
 -- ---- fetch before that
 
-module _ (s : Sizes) (leaf : ℕ) (desk tree path buffer : List ℕ) {o : Outcome} {p : List ℕ} (e : trees.tree_result o tree p ≡ trees.fetch_of s leaf tree path) where
+module _ (s : Sizes) (leaf : ℕ) (desk tree path buffer : List ℕ) {o : Result Unit Refusal} {p : List ℕ} (e : trees.tree_result o tree p ≡ trees.fetch_of s leaf tree path) where
   fetched-by : {x : RequestResult} → x ≡ finished_by o s leaf desk tree p buffer → x ≡ fetched_for s leaf desk tree path buffer
   fetched-by h = h ∙ ap (λ (t : trees.TreeResult). finished_by t.answer s leaf desk tree t.path buffer) e
 
-  pub fetch-refused : {r : Refusal} → o ≡ Refused r → requested (answered.Asked leaf (finished.Refused r)) desk tree p buffer ≡ fetched_for s leaf desk tree path buffer
-  fetch-refused h = fetched-by (sym (ap (λ (x : Outcome). finished_by x s leaf desk tree p buffer) h))
+  pub fetch-refused : {r : Refusal} → o ≡ Err r → requested (answered.Asked leaf (Err r)) desk tree p buffer ≡ fetched_for s leaf desk tree path buffer
+  fetch-refused h = fetched-by (sym (ap (λ (x : Result Unit Refusal). finished_by x s leaf desk tree p buffer) h))
 
-  pub fetch-done : {x : RequestResult} → o ≡ Done → x ≡ returned s leaf tree (finish.finish_of real desk p buffer) → x ≡ fetched_for s leaf desk tree path buffer
-  fetch-done h k = fetched-by (k ∙ sym (ap (λ (x : Outcome). finished_by x s leaf desk tree p buffer) h))
+  pub fetch-done : {x : RequestResult} → o ≡ Ok tt → x ≡ returned s leaf tree (finish.finish_of real desk p buffer) → x ≡ fetched_for s leaf desk tree path buffer
+  fetch-done h k = fetched-by (k ∙ sym (ap (λ (x : Result Unit Refusal). finished_by x s leaf desk tree p buffer) h))
 
 -- ---- ask before that
 
-module _ (desk tree path buffer : List ℕ) (kind : Kind) (id leaf : ℕ) {a : Asked} {d : List ℕ} (e : ask.ask_result a d ≡ ask.ask_of desk kind id leaf buffer) where
+module _ (desk tree path buffer : List ℕ) (kind : Kind) (id leaf : ℕ) {a : Result ℕ Refusal} {d : List ℕ} (e : ask.ask_result a d ≡ ask.ask_of desk kind id leaf buffer) where
   asked_by : {x : RequestResult} → x ≡ asked_for a d tree path buffer → x ≡ request_of desk tree path buffer kind id leaf
   asked_by h = h ∙ ap (λ (t : ask.AskResult). asked_for t.answer t.desk tree path buffer) e
 
-  pub ask-refused : {r : Refusal} → a ≡ asked.Refused r → requested (answered.Refused r) d tree path buffer ≡ request_of desk tree path buffer kind id leaf
-  ask-refused h = asked_by (sym (ap (λ (x : Asked). asked_for x d tree path buffer) h))
+  pub ask-refused : {r : Refusal} → a ≡ Err r → requested (answered.Refused r) d tree path buffer ≡ request_of desk tree path buffer kind id leaf
+  ask-refused h = asked_by (sym (ap (λ (x : Result ℕ Refusal). asked_for x d tree path buffer) h))
 
-  pub ask-done : {x : RequestResult} {position : ℕ} → a ≡ asked.Leaf position → x ≡ fetched_for (sizes_of d) position d tree path buffer → x ≡ request_of desk tree path buffer kind id leaf
-  ask-done h k = asked_by (k ∙ sym (ap (λ (x : Asked). asked_for x d tree path buffer) h))
+  pub ask-done : {x : RequestResult} {position : ℕ} → a ≡ Ok position → x ≡ fetched_for (sizes_of d) position d tree path buffer → x ≡ request_of desk tree path buffer kind id leaf
+  ask-done h k = asked_by (k ∙ sym (ap (λ (x : Result ℕ Refusal). asked_for x d tree path buffer) h))
 
   -- the desk of an accepted ask is long enough to read its sizes
-  pub ask-head : {position : ℕ} → a ≡ asked.Leaf position → b_at ≤ length desk
-  ask-head h = omega (arith, (known desk (ask-leaf desk kind id leaf buffer (sym (ap (λ (x : Asked). ask.ask_result x d) h) ∙ e)).passed.good).size)
+  pub ask-head : {position : ℕ} → a ≡ Ok position → b_at ≤ length desk
+  ask-head h = omega (arith, (known desk (ask-leaf desk kind id leaf buffer (sym (ap (λ (x : Result ℕ Refusal). ask.ask_result x d) h) ∙ e)).passed.good).size)

@@ -1,14 +1,11 @@
 -- One whole request against a lent tree: ask, fetch, finish, put; what it answers and what the four buffers then hold, on every input. Assumes nothing.
-use Rattle.std.specs.Prelude.{ℕ, Bool, true, false, List, [], ◌∷◌}
+use Rattle.sizes.specs.declared.Refusal.{Refusal}
+use Rattle.std.specs.Prelude.{ℕ, Bool, true, false, List, [], ◌∷◌, Err, Ok, Result}
 use Rattle.sizes.specs.declared.Sizes.{Sizes}
-use Rattle.sizes.specs.declared.Outcome.{Outcome}
-use Rattle.sizes.specs.declared.Outcome.TheVariants.{Done, Refused}
 use Rattle.sizes.specs.Refusals.{number_of}
 use Rattle.desk.specs.declared.Kind.{Kind}
 use Rattle.desk.specs.Readers.{sizes_of}
 use Rattle.tree.specs.Tree.{fetch_of, put_of}
-use Rattle.asks.specs.declared.Asked.{Asked}
-use Rattle.asks.specs.declared.Asked.TheVariants as asked
 use Rattle.asks.specs.Ask.{ask_of}
 use Rattle.items.specs.Real.{real}
 use Rattle.store.specs.declared.Finished.{Finished}
@@ -27,11 +24,11 @@ pub record RequestResult : Type 0 where
 abbrev pub requested : Answered → List ℕ → List ℕ → List ℕ → List ℕ → RequestResult
 requested a d t p b = record { answer = a; desk = d; tree = t; path = p; buffer = b }
 
-abbrev pub is_refused : Finished → Bool
-is_refused finished.Record = false
-is_refused finished.Never = false
-is_refused finished.Done = false
-is_refused (finished.Refused r) = true
+abbrev pub is_refused : Result Finished Refusal → Bool
+is_refused (Ok finished.Record) = false
+is_refused (Ok finished.Never) = false
+is_refused (Ok finished.Done) = false
+is_refused (Err r) = true
 
 -- put where the finish was accepted: a refused one has written no path
 abbrev pub put_unless : Bool → List ℕ → List ℕ → List ℕ
@@ -48,16 +45,16 @@ returned s leaf tree f =
     f.buffer
 
 -- finish over the path that was fetched; where fetch is refused, nothing more is done and the request stays open
-abbrev pub finished_by : Outcome → Sizes → ℕ → List ℕ → List ℕ → List ℕ → List ℕ → RequestResult
-finished_by (Refused r) s leaf desk tree path buffer = requested (answered.Asked leaf (finished.Refused r)) desk tree path buffer
-finished_by Done s leaf desk tree path buffer = returned s leaf tree (finish_of real desk path buffer)
+abbrev pub finished_by : Result Unit Refusal → Sizes → ℕ → List ℕ → List ℕ → List ℕ → List ℕ → RequestResult
+finished_by (Err r) s leaf desk tree path buffer = requested (answered.Asked leaf (Err r)) desk tree path buffer
+finished_by (Ok tt) s leaf desk tree path buffer = returned s leaf tree (finish_of real desk path buffer)
 
 abbrev pub fetched_for : Sizes → ℕ → List ℕ → List ℕ → List ℕ → List ℕ → RequestResult
 fetched_for s leaf desk tree path buffer = finished_by (fetch_of s leaf tree path).answer s leaf desk tree (fetch_of s leaf tree path).path buffer
 
-abbrev pub asked_for : Asked → List ℕ → List ℕ → List ℕ → List ℕ → RequestResult
-asked_for (asked.Refused r) desk tree path buffer = requested (answered.Refused r) desk tree path buffer
-asked_for (asked.Leaf leaf) desk tree path buffer = fetched_for (sizes_of desk) leaf desk tree path buffer
+abbrev pub asked_for : Result ℕ Refusal → List ℕ → List ℕ → List ℕ → List ℕ → RequestResult
+asked_for (Err r) desk tree path buffer = requested (answered.Refused r) desk tree path buffer
+asked_for (Ok leaf) desk tree path buffer = fetched_for (sizes_of desk) leaf desk tree path buffer
 
 -- the lent record is what a write writes, and where a read's record goes
 abbrev pub request_of : List ℕ → List ℕ → List ℕ → List ℕ → Kind → ℕ → ℕ → RequestResult

@@ -1,12 +1,12 @@
 -- A step leaves the buffers that its line does not name as they were, and a run stays sound. Assumes nothing.
+use Rattle.std.specs.Prelude.{Err, Ok, Result}
+use Rattle.sizes.specs.declared.Refusal.{Refusal}
 use Prim.Native.Nat.{ℕ, ◌+◌, ◌≤◌}
 use mathlib.Core.Path.{◌≡◌, refl, sym, ap, subst}
 use mathlib.Core.Bool.{Bool, true, false}
 use mathlib.Core.List.{List, []}
 use native.Mathlib.Omega.{arith}
 use lib.ListN.{take}
-use Rattle.sizes.specs.declared.Outcome.{Outcome}
-use Rattle.sizes.specs.declared.Outcome.TheVariants as outcome
 use Rattle.formats.specs.Format.{format_checked, format_of}
 use Rattle.formats.proofs.Passed.{format-passed}
 use Rattle.setup.specs.declared.Store.{Store}
@@ -31,11 +31,11 @@ first_frame (first.Is x) sh p = record { run_is = p.0; shelf_is = refl; wrote = 
 first_frame first.Bad sh p = record { run_is = p.0; shelf_is = refl; wrote = p.1; most = p.2 }
 
 module _ (t p b : List ℕ) {out out' : List ℕ} {r : Run} {w : ℕ} {d' l' : List ℕ} where
-  format-frame : (o : Outcome) (x : Store) (d ls : List ℕ) → Became (format_by o x (shelf d [] [] [] ls)) out out' r w (shelf d' [] [] [] l')
+  format-frame : (o : Result Unit Refusal) (x : Store) (d ls : List ℕ) → Became (format_by o x (shelf d [] [] [] ls)) out out' r w (shelf d' [] [] [] l')
       → Became (format_by o x (shelf d t p b ls)) out out' r w (shelf d' t p b l')
-  format-frame (outcome.Refused q) x d ls y =
+  format-frame (Err q) x d ls y =
       record { run_is = y.run_is; shelf_is = ap (λ (h : Shelf). shelf h.desk t p b h.leaves) y.shelf_is; wrote = y.wrote; most = y.most }
-  format-frame outcome.Done x d ls y =
+  format-frame (Ok tt) x d ls y =
       record { run_is = y.run_is; shelf_is = ap (λ (h : Shelf). shelf h.desk t p b h.leaves) y.shelf_is; wrote = y.wrote; most = y.most }
 
   pub second-frame : (g : Bool) (x : Store) (xs d ls : List ℕ) → Became (second_step g x xs (shelf d [] [] [] ls)) out out' r w (shelf d' [] [] [] l')
@@ -64,10 +64,10 @@ good-first : (xs : List ℕ) (sh : Shelf) (q : First) → store_of xs ≡ q → 
 good-first xs sh (first.Is x) e = let f = store-fits xs x e in (record { height_high = f.height_high; ids_high = f.ids_high }, omega arith)
 good-first xs sh first.Bad e = (tt, omega arith)
 
-good-format : (desk : List ℕ) (x : Store) (starts : List ℕ) (sh : Shelf) (o : Outcome) → Given x → format_checked desk x.height x.slots x.room x.ids key starts ≡ o
+good-format : (desk : List ℕ) (x : Store) (starts : List ℕ) (sh : Shelf) (o : Result Unit Refusal) → Given x → format_checked desk x.height x.slots x.room x.ids key starts ≡ o
     → Good (format_by o x sh).run 1
-good-format desk x starts sh (outcome.Refused r) h e = (tt, omega arith)
-good-format desk x starts sh outcome.Done h e =
+good-format desk x starts sh (Err r) h e = (tt, omega arith)
+good-format desk x starts sh (Ok tt) h e =
     (record { range = (format-passed desk x.height x.slots x.room x.ids key starts e).sizes; given = h }, omega arith)
 
 good-second : (g : Bool) (x : Store) (xs : List ℕ) (sh : Shelf) → Given x → Good (second_step g x xs sh).run 1

@@ -1,4 +1,6 @@
 -- What a step comes to, from what its calls answered; and the bounds that the shelf's buffers go by. Assumes nothing.
+use Rattle.std.specs.Prelude.{Result}
+use Rattle.sizes.specs.declared.Refusal.{Refusal}
 use Prim.Native.Nat.{ℕ, zero, suc, ◌+◌, ◌≤◌}
 use mathlib.Core.Path.{◌≡◌, refl, sym, ap, subst, ◌∙◌}
 use mathlib.Core.Bool.{Bool, true}
@@ -7,7 +9,6 @@ use native.Mathlib.Omega.{arith}
 use lib.ListN.{length, take, drop}
 use lib.Seq.{length-take-le, take_at}
 use Rattle.words.proofs.Splice.{splice-nil}
-use Rattle.sizes.specs.declared.Outcome.{Outcome}
 use Rattle.sizes.specs.Sizes.{sized, tree_len, path_len, most_slots}
 use Rattle.desk.specs.declared.Kind.{Kind}
 use Rattle.formats.specs.Format.{format_of, format_result}
@@ -52,7 +53,7 @@ path_most (suc (suc (suc (suc h)))) z a b c = absurd (omega arith)
 -- ---- the second line
 
 -- it can be read, and format answered a and left d
-pub second-by : (x : Store) (xs : List ℕ) (sh : Shelf) (a : Outcome) (d : List ℕ) (m : ℕ) (ls : List ℕ) → start_good x.ids xs ≡ true → m ≡ desk_len_of x → ls ≡ start_leaves (take x.ids sh.leaves) xs
+pub second-by : (x : Store) (xs : List ℕ) (sh : Shelf) (a : Result Unit Refusal) (d : List ℕ) (m : ℕ) (ls : List ℕ) → start_good x.ids xs ≡ true → m ≡ desk_len_of x → ls ≡ start_leaves (take x.ids sh.leaves) xs
     → format_result a d ≡ format_of (take m sh.desk) x.height x.slots x.room x.ids key ls
     → second_step (start_good x.ids xs) x xs sh
     ≡ format_by a x (shelf (over m sh.desk d) sh.tree sh.path sh.buffer (over x.ids sh.leaves ls))
@@ -61,7 +62,7 @@ second-by x xs sh a d m ls e f g r =
     ∙ rw (← f, ← g) (ap (λ q. format_by q.answer x (shelf (over m sh.desk q.desk) sh.tree sh.path sh.buffer (over x.ids sh.leaves ls))) (sym r))
 
 -- the same, of what the calls said: start_line answered g and left ls, and format answered a, which is b
-pub second-said : (x : Store) (xs desk leaves : List ℕ) (a b : Outcome) (d ls : List ℕ) (m : ℕ) (g : Bool) → x.ids ≤ length leaves → length ls ≡ length (take x.ids leaves)
+pub second-said : (x : Store) (xs desk leaves : List ℕ) (a b : Result Unit Refusal) (d ls : List ℕ) (m : ℕ) (g : Bool) → x.ids ≤ length leaves → length ls ≡ length (take x.ids leaves)
     → g ≡ start_good (length (take x.ids leaves)) xs → g ≡ true → m ≡ desk_len_of x → ls ≡ start_leaves (take x.ids leaves) xs
     → format_result a d ≡ format_of (take m desk) x.height x.slots x.room x.ids key (take x.ids (ls ++ drop x.ids leaves)) → a ≡ b
     → second_step (start_good x.ids xs) x xs (shelf desk [] [] [] leaves) ≡ format_by b x (shelf (over m desk d) [] [] [] (over x.ids leaves ls))
@@ -71,7 +72,7 @@ second-said x xs desk leaves a b d ls m g h k e f i j r o =
     let s : start_good n xs ≡ true = ap (λ (c : ℕ). start_good c xs) (sym l) ∙ sym e ∙ f in
     let q = r ∙ ap (λ (c : List ℕ). format_of (take m desk) x.height x.slots x.room n key c) (take_at ls (drop n leaves) n (k ∙ l)) in
     second-by x xs (shelf desk [] [] [] leaves) a d m ls s i j q
-    ∙ ap (λ (c : Outcome). format_by c x (shelf (over m desk d) [] [] [] (over n leaves ls))) o
+    ∙ ap (λ (c : Result Unit Refusal). format_by c x (shelf (over m desk d) [] [] [] (over n leaves ls))) o
 
 -- ---- a request
 

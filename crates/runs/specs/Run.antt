@@ -1,7 +1,6 @@
 -- The run of a script: what each line does to the shelf's buffers, and what it adds to the listing. Assumes nothing.
-use Rattle.std.specs.Prelude.{ℕ, ◌+◌, ◌^◌, ◌≤◌, ◌<◌, ◌≡◌, Bool, true, false, List, [], length, take, drop}
-use Rattle.sizes.specs.declared.Outcome.{Outcome}
-use Rattle.sizes.specs.declared.Outcome.TheVariants as outcome
+use Rattle.sizes.specs.declared.Refusal.{Refusal}
+use Rattle.std.specs.Prelude.{ℕ, ◌+◌, ◌^◌, ◌≤◌, ◌<◌, ◌≡◌, Bool, true, false, List, [], length, take, drop, Err, Ok, Result}
 use Rattle.sizes.specs.Sizes.{InRange, record_len, most_ids}
 use Rattle.formats.specs.Format.{FormatResult, format_of}
 use Rattle.desk.specs.declared.Kind.{Kind}
@@ -57,9 +56,9 @@ abbrev pub with_desk : ℕ → List ℕ → Shelf → Shelf
 with_desk m new sh =
     record { desk = over m sh.desk new; tree = sh.tree; path = sh.path; buffer = sh.buffer; leaves = sh.leaves }
 
-abbrev pub format_by : Outcome → Store → Shelf → Moved
-format_by (outcome.Refused r) x sh = moved run.Over (format_row r) sh
-format_by outcome.Done x sh = moved (run.Ready x 0) [] sh
+abbrev pub format_by : Result Unit Refusal → Store → Shelf → Moved
+format_by (Err r) x sh = moved run.Over (format_row r) sh
+format_by (Ok tt) x sh = moved (run.Ready x 0) [] sh
 
 abbrev pub format_step : FormatResult → Store → Shelf → Moved
 format_step f x sh = format_by f.answer x (with_desk (desk_len_of x) f.desk sh)
@@ -73,11 +72,11 @@ second_step false x xs sh = bad_step (with_leaves x.ids xs sh)
 
 -- ---- a request
 
-abbrev pub answer_of : Finished → Answer
-answer_of finished.Record = answer.Record
-answer_of finished.Never = answer.Never
-answer_of finished.Done = answer.Done
-answer_of (finished.Refused r) = answer.Refused r
+abbrev pub answer_of : Result Finished Refusal → Answer
+answer_of (Ok finished.Record) = answer.Record
+answer_of (Ok finished.Never) = answer.Never
+answer_of (Ok finished.Done) = answer.Done
+answer_of (Err r) = answer.Refused r
 
 -- the leaf is shown if one was asked for
 abbrev pub row_for : Answered → ℕ → Kind → ℕ → List ℕ → List ℕ

@@ -6,8 +6,8 @@ ghost use Rattle.sizes.specs.Sizes as spec;
 ghost use Rattle.sizes.specs.Places.{ItemAt, InnerAt, InTree};
 ghost use Rattle.sizes.specs.Refusals.{number_of};
 
-// The paper's eleven, in the order of their numbers.
-#[derive(Clone, Copy, Drop)]
+// The paper's eleven, in the order of their numbers. The checks of an entry answer with the first that applies.
+#[derive(Clone, Copy, Debug, PartialEq, Eq)]
 pub enum Refusal {
     BadDesk,
     Stopped,
@@ -22,32 +22,27 @@ pub enum Refusal {
     Full,
 }
 
-// What an entry with nothing else to answer comes to, and what the checks of any entry do.
-#[derive(Clone, Copy, Drop)]
-pub enum Outcome {
-    Done,
-    Refused(Refusal),
-}
+impl From<Refusal> for u8 {
+    ghost from_gives = { λ r n. n ≡ number_of r };
 
-pub fn number(r: Refusal) -> u8
-    ensures { result ≡ number_of r }
-{
-    match r {
-        Refusal::BadDesk => 1,
-        Refusal::Stopped => 2,
-        Refusal::Open => 3,
-        Refusal::NotOpen => 4,
-        Refusal::BadId => 5,
-        Refusal::BadLeaf => 6,
-        Refusal::BadLength => 7,
-        Refusal::BadSize => 8,
-        Refusal::Forged => 9,
-        Refusal::Worn => 10,
-        Refusal::Full => 11,
+    fn from(r: Refusal) -> u8 {
+        match r {
+            Refusal::BadDesk => 1,
+            Refusal::Stopped => 2,
+            Refusal::Open => 3,
+            Refusal::NotOpen => 4,
+            Refusal::BadId => 5,
+            Refusal::BadLeaf => 6,
+            Refusal::BadLength => 7,
+            Refusal::BadSize => 8,
+            Refusal::Forged => 9,
+            Refusal::Worn => 10,
+            Refusal::Full => 11,
+        }
     }
 }
 
-#[derive(Clone, Copy, Drop)]
+#[derive(Clone, Copy, Debug, PartialEq, Eq)]
 pub struct Sizes {
     pub height: usize,
     pub slots: usize,

@@ -1,9 +1,7 @@
 -- Finish: what it answers and what the buffers then hold, on every input. Assumes nothing.
-use Rattle.std.specs.Prelude.{ℕ, Bool, not, ◌&&◌, List, [], ◌∷◌, ◌++◌, length, leb, ltb, eqb}
+use Rattle.std.specs.Prelude.{ℕ, Bool, not, ◌&&◌, List, [], ◌∷◌, ◌++◌, length, leb, ltb, eqb, Err, Ok, Result}
 use Rattle.sizes.specs.declared.Refusal.{Refusal}
 use Rattle.sizes.specs.declared.Refusal.TheVariants.{BadDesk, Stopped, NotOpen, BadLength, Forged, Worn, Full}
-use Rattle.sizes.specs.declared.Outcome.{Outcome}
-use Rattle.sizes.specs.declared.Outcome.TheVariants.{Done, Refused}
 use Rattle.sizes.specs.Sizes.{record_len, path_len}
 use Rattle.sizes.specs.Refusals.{number_of, first_of, kept_or}
 use Rattle.desk.specs.Layout.{room_of}
@@ -35,24 +33,24 @@ path_rows m desk path = (not (genuine m desk path), Forged) ∷ (worn m desk pat
 abbrev pub finish_rows : Means → List ℕ → List ℕ → List ℕ → List (Bool × Refusal)
 finish_rows m desk path buffer = entry_rows desk path buffer ++ path_rows m desk path
 
-unfoldable pub finish_checked : Means → List ℕ → List ℕ → List ℕ → Outcome
+unfoldable pub finish_checked : Means → List ℕ → List ℕ → List ℕ → Result Unit Refusal
 finish_checked m desk path buffer = first_of (finish_rows m desk path buffer)
 
-abbrev pub finished_or : Outcome → Finished → Finished
-finished_or (Refused r) answer = finished.Refused r
-finished_or Done answer = answer
+abbrev pub finished_or : Result Unit Refusal → Finished → Result Finished Refusal
+finished_or (Err r) answer = Err r
+finished_or (Ok tt) answer = Ok answer
 
 pub record FinishResult : Type 0 where
-  pub answer : Finished
+  pub answer : Result Finished Refusal
   pub desk : List ℕ
   pub path : List ℕ
   pub buffer : List ℕ
 
-abbrev pub finish_result : Finished → List ℕ → List ℕ → List ℕ → FinishResult
+abbrev pub finish_result : Result Finished Refusal → List ℕ → List ℕ → List ℕ → FinishResult
 finish_result a d p b = record { answer = a; desk = d; path = p; buffer = b }
 
 -- the result of a finish whose checks came out as given
-abbrev pub finish_by : Outcome → Means → List ℕ → List ℕ → List ℕ → FinishResult
+abbrev pub finish_by : Result Unit Refusal → Means → List ℕ → List ℕ → List ℕ → FinishResult
 finish_by c m desk path buffer =
     record {
       answer = finished_or c (answer_for (kind_asked desk) (was_marked m desk path));
@@ -65,8 +63,8 @@ abbrev pub finish_of : Means → List ℕ → List ℕ → List ℕ → FinishRe
 finish_of m desk path buffer = finish_by (finish_checked m desk path buffer) m desk path buffer
 
 -- each answer's number in the paper, 0 where nothing is refused, and its values: there are none, since a record is in the buffer
-abbrev pub finished_value : Finished → ℕ × List ℕ
-finished_value finished.Record = (0, [])
-finished_value finished.Never = (0, [])
-finished_value finished.Done = (0, [])
-finished_value (finished.Refused r) = (number_of r, [])
+abbrev pub finished_value : Result Finished Refusal → ℕ × List ℕ
+finished_value (Ok finished.Record) = (0, [])
+finished_value (Ok finished.Never) = (0, [])
+finished_value (Ok finished.Done) = (0, [])
+finished_value (Err r) = (number_of r, [])

@@ -19,40 +19,39 @@ ghost use Rattle.store.specs.Laying.{Laid, Writable, Accepted};
 
 use items::View;
 use placing::Counts;
-use sizes::{Outcome, Refusal, Sizes};
+use sizes::{Refusal, Sizes};
 
 mod plan;
 mod request;
 
-// What a finish answers. A record goes to the lent buffer.
-#[derive(Clone, Copy, Drop)]
+// What a finish that is not refused answers. A record goes to the lent buffer.
+#[derive(Clone, Copy, Debug, PartialEq, Eq)]
 pub enum Finished {
     Record,
     Never,
     Done,
-    Refused(Refusal),
 }
 
 // The refusals that come before the path is looked at, in order.
-fn entry_checked(desk: &[u8], path: &[u8], record: &[u8]) -> Outcome
+fn entry_checked(desk: &[u8], path: &[u8], record: &[u8]) -> Result<(), Refusal>
     ensures { result ≡ first_of (entry_rows desk.now path.now «record».now) }
 {
     if !desk::good(desk) {
-        return Outcome::Refused(Refusal::BadDesk);
+        return Err(Refusal::BadDesk);
     }
     let status = desk[desk::STATUS];
     if desk::FIRST_STOPPED <= status {
-        return Outcome::Refused(Refusal::Stopped);
+        return Err(Refusal::Stopped);
     }
     if status == desk::READY {
-        return Outcome::Refused(Refusal::NotOpen);
+        return Err(Refusal::NotOpen);
     }
     let s = desk::sizes_of(desk);
     let fits = (path.len() == s.path_len()) & (record.len() == Sizes::RECORD);
     if !fits {
-        return Outcome::Refused(Refusal::BadLength);
+        return Err(Refusal::BadLength);
     }
-    Outcome::Done
+    Ok(())
 }
 
 // The slots of each bucket, laid into the working copy: the bucket of level `k` has the height L - k in the plan.
@@ -139,7 +138,7 @@ fn place(
     w: &mut [u8],
     v: View,
     n: usize,
-) -> Finished
+) -> Result<Finished, Refusal>
     requires { Ready desk.old path.old v n w.old × (length «record».old ≡ record_len) }
     ensures { finish_result result desk.new path.new «record».new ≡ finish_by (first_of (full_rows real desk.old path.old)) real desk.old path.old «record».old }
 {
@@ -154,15 +153,19 @@ fn place(
     let room = desk[desk::ROOM] as usize;
     if room < rest {
         desk[desk::STATUS] = desk::FULL;
-        return Finished::Refused(Refusal::Full);
+        return Err(Refusal::Full);
     }
     request::hand_out(record, &kept, kind, marked);
     follow(desk, path, w, v, n, c, &bank, &places, &at);
-    request::answer_for(kind, marked)
+    Ok(request::answer_for(kind, marked))
 }
 
 // Steps 1 to 6 of an open request.
-fn finish_open(desk: &mut [u8], path: &mut [u8], record: &mut [u8]) -> Finished
+fn finish_open(
+    desk: &mut [u8],
+    path: &mut [u8],
+    record: &mut [u8],
+) -> Result<Finished, Refusal>
     requires open_desk { OpenDesk desk.old × (new_leaf desk.old < leaves (sizes_of desk.old)) }
     requires path_len { (length path.old ≡ path_len (sizes_of desk.old)) × (length «record».old ≡ record_len) }
     ensures { finish_result result desk.new path.new «record».new ≡ finish_by (first_of (path_rows real desk.old path.old)) real desk.old path.old «record».old }
@@ -173,22 +176,23 @@ fn finish_open(desk: &mut [u8], path: &mut [u8], record: &mut [u8]) -> Finished
     let good = o.good;
     if !good {
         desk[desk::STATUS] = desk::FORGED;
-        return Finished::Refused(Refusal::Forged);
+        return Err(Refusal::Forged);
     }
     let n = o.count;
     if opening::is_worn(path, v, n) {
         desk[desk::STATUS] = desk::WORN;
-        return Finished::Refused(Refusal::Worn);
+        return Err(Refusal::Worn);
     }
     place(desk, path, record, &mut w, v, n)
 }
 
-pub fn finish(desk: &mut [u8], path: &mut [u8], record: &mut [u8]) -> Finished
+pub fn finish(
+    desk: &mut [u8],
+    path: &mut [u8],
+    record: &mut [u8],
+) -> Result<Finished, Refusal>
     ensures { finish_result result desk.new path.new «record».new ≡ finish_of real desk.old path.old «record».old }
 {
-    let checked = entry_checked(desk, path, record);
-    match checked {
-        Outcome::Refused(r) => Finished::Refused(r),
-        Outcome::Done => finish_open(desk, path, record),
-    }
+    entry_checked(desk, path, record)?;
+    finish_open(desk, path, record)
 }

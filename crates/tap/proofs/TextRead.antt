@@ -1,10 +1,9 @@
 -- Reading: what a text came to, and the pass of its sheet, give the answer. Assumes nothing.
+use Rattle.std.specs.Prelude.{Err, Ok, Result}
 use Prim.Native.Nat.{ℕ, ◌-◌}
 use mathlib.Core.Path.{◌≡◌, sym, ap, ◌∙◌}
 use mathlib.Core.List.{List}
 use Rattle.sizes.specs.declared.Refusal.{Refusal}
-use Rattle.sizes.specs.declared.Outcome.{Outcome}
-use Rattle.sizes.specs.declared.Outcome.TheVariants as outcome
 use Rattle.book.specs.MatrixRow.{row_checked}
 use Rattle.sheets.specs.Sheet.{empty_sheet}
 use Rattle.taking.specs.declared.Trouble.{Trouble}
@@ -26,19 +25,19 @@ module _ (desk tree : List ℕ) (chapter year first n : ℕ) (draws words : List
   pub text-bad : {trouble : Trouble} {line : ℕ} → r ≡ text.Bad trouble line → read_in (taken.Bad trouble line) desk tree ≡ read_taken (take_of chapter year n words) desk tree first draws
   text-bad h = by-text h
 
-  pub text-good : r ≡ text.Good → {o p : Outcome} {d t y : List ℕ} → sheet_passed o d t y ≡ pass_of desk tree first draws s → o ≡ p
+  pub text-good : r ≡ text.Good → {o p : Result Unit Refusal} {d t y : List ℕ} → sheet_passed o d t y ≡ pass_of desk tree first draws s → o ≡ p
       → read_in (taken_by p) d t ≡ read_taken (take_of chapter year n words) desk tree first draws
-  text-good h {d = d} {t = t} k g = ap (λ (x : Outcome). read_in (taken_by x) d t) (sym g) ∙ ap read_passed k ∙ by-text h
+  text-good h {d = d} {t = t} k g = ap (λ (x : Result Unit Refusal). read_in (taken_by x) d t) (sym g) ∙ ap read_passed k ∙ by-text h
 
 -- ---- by the checks
 
 module _ (desk tree : List ℕ) (chapter year first end : ℕ) (draws words : List ℕ) where
-  by-checks : {o : Outcome} → row_checked desk tree first end draws ≡ o → read_by o desk tree chapter year first end draws words ≡ read_of desk tree chapter year first end draws words
-  by-checks h = ap (λ (x : Outcome). read_by x desk tree chapter year first end draws words) (sym h)
+  by-checks : {o : Result Unit Refusal} → row_checked desk tree first end draws ≡ o → read_by o desk tree chapter year first end draws words ≡ read_of desk tree chapter year first end draws words
+  by-checks h = ap (λ (x : Result Unit Refusal). read_by x desk tree chapter year first end draws words) (sym h)
 
-  pub read-refused : {q : Refusal} → row_checked desk tree first end draws ≡ outcome.Refused q → read_in (taken.Refused q) desk tree ≡ read_of desk tree chapter year first end draws words
+  pub read-refused : {q : Refusal} → row_checked desk tree first end draws ≡ Err q → read_in (taken.Refused q) desk tree ≡ read_of desk tree chapter year first end draws words
   read-refused h = by-checks h
 
-  pub read_done : row_checked desk tree first end draws ≡ outcome.Done → {a : Taken} {d t : List ℕ} → read_in a d t ≡ read_taken (take_of chapter year (end - first) words) desk tree first draws
+  pub read_done : row_checked desk tree first end draws ≡ Ok tt → {a : Taken} {d t : List ℕ} → read_in a d t ≡ read_taken (take_of chapter year (end - first) words) desk tree first draws
       → read_in a d t ≡ read_of desk tree chapter year first end draws words
   read_done h k = k ∙ by-checks h

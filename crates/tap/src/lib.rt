@@ -1,8 +1,7 @@
 // TAP in and out: a text of the Test Anything Protocol read into the store for a range of ids of the verdict book, and the text that says the range. Assumes nothing.
 #![tactic(auto)]
 
-ghost use Rattle.std.specs.Prelude.{◌≡◌, ◌-◌};
-ghost use Rattle.sizes.specs.declared.Outcome.TheVariants as outcome;
+ghost use Rattle.std.specs.Prelude.{◌≡◌, ◌-◌, Ok};
 ghost use Rattle.book.specs.MatrixRow.{row_checked};
 ghost use Rattle.printing.specs.Printed.{room_of};
 ghost use Rattle.sheets.specs.Sheet.{empty_sheet};
@@ -48,7 +47,7 @@ fn read_checked(
     draws: &[u16],
     text: &[u8],
 ) -> Taken
-    requires { (row_checked desk.old tree.old first end draws.now ≡ outcome.Done) × (sheet.old ≡ empty_sheet (end - first)) }
+    requires { (row_checked desk.old tree.old first end draws.now ≡ Ok tt) × (sheet.old ≡ empty_sheet (end - first)) }
     ensures { read_in result desk.new tree.new ≡ read_taken (take_of chapter year (end - first) text.now) desk.old tree.old first draws.now }
 {
     match taking::take(sheet, chapter, year, (end - first) as usize, text) {
@@ -126,7 +125,7 @@ fn write_range(
     draws: &[u16],
     out: &mut [u8],
 ) -> Printed
-    requires { (write_checked desk.old tree.old first end draws.now out.old ≡ outcome.Done) × (sheet.old ≡ empty_sheet (end - first)) }
+    requires { (write_checked desk.old tree.old first end draws.now out.old ≡ Ok tt) × (sheet.old ≡ empty_sheet (end - first)) }
     ensures { wrote result desk.new tree.new out.new ≡ write_passed chapter (end - first) (pass_of desk.old tree.old first draws.now (empty_sheet (end - first))) out.old }
 {
     match passing::pass_all(desk, tree, sheet, first, end, draws) {

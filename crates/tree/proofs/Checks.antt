@@ -1,4 +1,5 @@
 -- Where fetch and put are not refused, everything fits. Assumes nothing.
+use Rattle.std.specs.Prelude.{Ok}
 use mathlib.Core.Path.{◌≡◌}
 use mathlib.Core.List.{List}
 use Prim.Native.Nat.{ℕ}
@@ -7,13 +8,12 @@ use lib.Dec.{eqb}
 use borrow.Author.Tests.{not-false, leb-false, eqb-true}
 use Rattle.words.proofs.Tests.{and_left, and_right}
 use Rattle.sizes.specs.declared.Sizes.{Sizes}
-use Rattle.sizes.specs.declared.Outcome.TheVariants.{Done}
 use Rattle.sizes.specs.Sizes.{sizes_good, leaves, tree_len, path_len}
 use Rattle.sizes.proofs.Lengths.{sizes-range}
 use Rattle.sizes.proofs.Rows.{none-applies}
 use Rattle.tree.specs.Tree.{tree_rows, tree_checked, Fits}
 
-pub checked-fits : (s : Sizes) (leaf : ℕ) (tree path : List ℕ) → tree_checked s leaf tree path ≡ Done → Fits s leaf tree path
+pub checked-fits : (s : Sizes) (leaf : ℕ) (tree path : List ℕ) → tree_checked s leaf tree path ≡ Ok tt → Fits s leaf tree path
 unfolding tree_checked
 checked-fits s leaf tree path h =
     let n = none-applies (tree_rows s leaf tree path) h in

@@ -1,10 +1,9 @@
 -- The tree's side. Fetch copies the items of a leaf's path from tree to path, root first; put copies them back; all else stays. Assumes nothing.
-use Rattle.std.specs.Prelude.{ℕ, zero, suc, ◌<◌, ◌≡◌, Bool, not, ◌&&◌, List, [], ◌∷◌, ◌++◌, length, leb, eqb}
+use Rattle.std.specs.Prelude.{ℕ, zero, suc, ◌<◌, ◌≡◌, Bool, not, ◌&&◌, List, [], ◌∷◌, ◌++◌, length, leb, eqb, Result}
 use Rattle.words.specs.Bytes.{part, splice}
 use Rattle.sizes.specs.declared.Sizes.{Sizes}
 use Rattle.sizes.specs.declared.Refusal.{Refusal}
 use Rattle.sizes.specs.declared.Refusal.TheVariants.{BadLeaf, BadLength, BadSize}
-use Rattle.sizes.specs.declared.Outcome.{Outcome}
 use Rattle.sizes.specs.Sizes.{sizes_good, InRange, leaves, item_len, item_of, path_len, bucket_at, tree_at, tree_len}
 use Rattle.sizes.specs.Refusals.{first_of, kept_or}
 
@@ -16,7 +15,7 @@ tree_rows s leaf tree path =
     ∷ (not (eqb (length tree) (tree_len s) && eqb (length path) (path_len s)), BadLength)
     ∷ []
 
-unfoldable pub tree_checked : Sizes → ℕ → List ℕ → List ℕ → Outcome
+unfoldable pub tree_checked : Sizes → ℕ → List ℕ → List ℕ → Result Unit Refusal
 tree_checked s leaf tree path = first_of (tree_rows s leaf tree path)
 
 -- what is known where none applies
@@ -41,11 +40,11 @@ put_back s leaf path tree (suc k) = splice (put_back s leaf path tree k) (tree_a
 
 -- what fetch and put answer, and what both buffers then hold, on every input
 pub record TreeResult : Type 0 where
-  pub answer : Outcome
+  pub answer : Result Unit Refusal
   pub tree : List ℕ
   pub path : List ℕ
 
-abbrev pub tree_result : Outcome → List ℕ → List ℕ → TreeResult
+abbrev pub tree_result : Result Unit Refusal → List ℕ → List ℕ → TreeResult
 tree_result a t p = record { answer = a; tree = t; path = p }
 
 abbrev pub fetch_of : Sizes → ℕ → List ℕ → List ℕ → TreeResult

@@ -6,23 +6,23 @@ ghost use Rattle.std.specs.Prelude.{◌≡◌, suc};
 ghost use Rattle.sizes.specs.Sizes.{sized};
 ghost use Rattle.tree.specs.Tree.{Fits, tree_checked, fetched, put_back, fetch_of, put_of, tree_result};
 
-use sizes::{Outcome, Refusal, Sizes};
+use sizes::{Refusal, Sizes};
 
 // The checks of both, in the paper's order.
-fn checked(tree: &[u8], s: Sizes, leaf: usize, path: &[u8]) -> Outcome
+fn checked(tree: &[u8], s: Sizes, leaf: usize, path: &[u8]) -> Result<(), Refusal>
     ensures { result ≡ tree_checked s leaf tree.now path.now }
 {
     if !s.good() {
-        return Outcome::Refused(Refusal::BadSize);
+        return Err(Refusal::BadSize);
     }
     if s.leaves() <= leaf {
-        return Outcome::Refused(Refusal::BadLeaf);
+        return Err(Refusal::BadLeaf);
     }
     let fits = (tree.len() == s.tree_len()) & (path.len() == s.path_len());
     if !fits {
-        return Outcome::Refused(Refusal::BadLength);
+        return Err(Refusal::BadLength);
     }
-    Outcome::Done
+    Ok(())
 }
 
 // The items of the path, from tree to path.
@@ -55,32 +55,22 @@ fn copy_in(tree: &mut [u8], s: Sizes, leaf: usize, path: &[u8])
     }
 }
 
-pub fn fetch(tree: &[u8], height: u8, slots: u8, leaf: u16, path: &mut [u8]) -> Outcome
+pub fn fetch(tree: &[u8], height: u8, slots: u8, leaf: u16, path: &mut [u8]) -> Result<(), Refusal>
     ensures { tree_result result tree.now path.new ≡ fetch_of (sized height slots) leaf tree.now path.old }
 {
     let s = Sizes::of(height, slots);
     let l = leaf as usize;
-    let checks = checked(tree, s, l, path);
-    match checks {
-        Outcome::Refused(r) => Outcome::Refused(r),
-        Outcome::Done => {
-            copy_out(tree, s, l, path);
-            Outcome::Done
-        }
-    }
+    checked(tree, s, l, path)?;
+    copy_out(tree, s, l, path);
+    Ok(())
 }
 
-pub fn put(tree: &mut [u8], height: u8, slots: u8, leaf: u16, path: &[u8]) -> Outcome
+pub fn put(tree: &mut [u8], height: u8, slots: u8, leaf: u16, path: &[u8]) -> Result<(), Refusal>
     ensures { tree_result result tree.new path.now ≡ put_of (sized height slots) leaf tree.old path.now }
 {
     let s = Sizes::of(height, slots);
     let l = leaf as usize;
-    let checks = checked(tree, s, l, path);
-    match checks {
-        Outcome::Refused(r) => Outcome::Refused(r),
-        Outcome::Done => {
-            copy_in(tree, s, l, path);
-            Outcome::Done
-        }
-    }
+    checked(tree, s, l, path)?;
+    copy_in(tree, s, l, path);
+    Ok(())
 }

@@ -1,5 +1,6 @@
 -- The six columns of a matrix row: which one a case stands in, and counts of them. Assumes nothing.
-use Rattle.std.specs.Prelude.{ℕ, ◌+◌, cond, List, eqb}
+use Rattle.sizes.specs.declared.Refusal.{Refusal}
+use Rattle.std.specs.Prelude.{ℕ, ◌+◌, cond, List, eqb, Err, Ok, Result}
 use Rattle.store.specs.declared.Finished.{Finished}
 use Rattle.store.specs.declared.Finished.TheVariants as finished
 use Rattle.verdicts.specs.declared.Verdict.{Verdict}
@@ -35,11 +36,11 @@ record_cell chapter rec = reading_cell chapter (reading_of rec)
 
 -- a read's column, by its answer and the record that it left in the buffer. Never is not run, and nothing else is. A read is never answered by Done
 -- (`never_done`, in the promises); it would be no verdict
-abbrev pub found_of : ℕ → Finished → List ℕ → Found
-found_of chapter finished.Record rec = found.Cell (record_cell chapter rec)
-found_of chapter finished.Never rec = found.Cell NotRun
-found_of chapter finished.Done rec = found.Cell Bad
-found_of chapter (finished.Refused q) rec = found.Refused q
+abbrev pub found_of : ℕ → Result Finished Refusal → List ℕ → Found
+found_of chapter (Ok finished.Record) rec = found.Cell (record_cell chapter rec)
+found_of chapter (Ok finished.Never) rec = found.Cell NotRun
+found_of chapter (Ok finished.Done) rec = found.Cell Bad
+found_of chapter (Err q) rec = found.Refused q
 
 -- ---- counts
 

@@ -1,11 +1,11 @@
 -- `tap::write` meets its contract: the checks refuse, or the ids are read into a sheet of zeros. Assumes nothing.
+use Rattle.std.specs.Prelude.{Ok}
 use Prim.Native.Nat.{◌-◌, ◌*◌, ◌≤◌}
 use mathlib.Core.Path.{◌≡◌, sym, ◌∙◌}
 use native.Mathlib.Omega.{arith}
 use lib.Seq.{length-take-le}
 use Rattle.words.specs.Bytes.{zeros}
 use Rattle.words.proofs.Splice.{take-zeros}
-use Rattle.sizes.specs.declared.Outcome.TheVariants.{Done}
 use Rattle.sizes.specs.Sizes.{record_len, most_ids}
 use Rattle.tap.specs.Tap.{write_checked}
 use Rattle.book.proofs.Passed.{row-passed}
@@ -15,27 +15,27 @@ use Rattle.tap.proofs.write.Goals as goal
 
 pub overflow_sub-n : goal.overflow_sub-n
 overflow_sub-n c =
-    let done : let a = c.args in write_checked a.desk.now a.tree.now a.first a.end a.draws.now a.out.now ≡ Done = sym c.write_checked.ensures ∙ c.in-Done.is in
+    let done : let a = c.args in write_checked a.desk.now a.tree.now a.first a.end a.draws.now a.out.now ≡ Ok tt = sym c.write_checked.ensures ∙ c.in-Done.is in
     let range : let a = c.args in Good a.first a.end = good-range (row-passed (write-passed done).row) in
     range.rising
 
 pub slice_bounds-sheet-end : goal.slice_bounds-sheet-end
 slice_bounds-sheet-end c =
-    let done : let a = c.args in write_checked a.desk.now a.tree.now a.first a.end a.draws.now a.out.now ≡ Done = sym c.write_checked.ensures ∙ c.in-Done.is in
+    let done : let a = c.args in write_checked a.desk.now a.tree.now a.first a.end a.draws.now a.out.now ≡ Ok tt = sym c.write_checked.ensures ∙ c.in-Done.is in
     let range : let a = c.args in Good a.first a.end = good-range (row-passed (write-passed done).row) in
     let short : let a = c.args in (a.end - a.first) * record_len ≤ most_ids * record_len = omega (arith, range.few) in
     short
 
 pub slice_bounds-write_range-end : goal.slice_bounds-write_range-end
 slice_bounds-write_range-end c =
-    let done : let a = c.args in write_checked a.desk.now a.tree.now a.first a.end a.draws.now a.out.now ≡ Done = sym c.write_checked.ensures ∙ c.in-Done.is in
+    let done : let a = c.args in write_checked a.desk.now a.tree.now a.first a.end a.draws.now a.out.now ≡ Ok tt = sym c.write_checked.ensures ∙ c.in-Done.is in
     let range : let a = c.args in Good a.first a.end = good-range (row-passed (write-passed done).row) in
     let short : let a = c.args in (a.end - a.first) * record_len ≤ most_ids * record_len = omega (arith, range.few) in
     let a = c.args in sym (length-take-le ((a.end - a.first) * record_len) (zeros (most_ids * record_len)) short)
 
 pub write_range-requires : goal.write_range-requires
 write_range-requires c =
-    let done : let a = c.args in write_checked a.desk.now a.tree.now a.first a.end a.draws.now a.out.now ≡ Done = sym c.write_checked.ensures ∙ c.in-Done.is in
+    let done : let a = c.args in write_checked a.desk.now a.tree.now a.first a.end a.draws.now a.out.now ≡ Ok tt = sym c.write_checked.ensures ∙ c.in-Done.is in
     let range : let a = c.args in Good a.first a.end = good-range (row-passed (write-passed done).row) in
     let short : let a = c.args in (a.end - a.first) * record_len ≤ most_ids * record_len = omega (arith, range.few) in
     let a = c.args in (done, take-zeros ((a.end - a.first) * record_len) (most_ids * record_len) short)
@@ -47,6 +47,6 @@ returns-in-Refused c =
 
 pub returns-in-Done : goal.returns-in-Done
 returns-in-Done c =
-    let done : let a = c.args in write_checked a.desk.now a.tree.now a.first a.end a.draws.now a.out.now ≡ Done = sym c.write_checked.ensures ∙ c.in-Done.is in
+    let done : let a = c.args in write_checked a.desk.now a.tree.now a.first a.end a.draws.now a.out.now ≡ Ok tt = sym c.write_checked.ensures ∙ c.in-Done.is in
     let a = c.args in
     write_done a.desk.now a.tree.now a.chapter a.first a.end a.draws.now a.out.now done c.write_range.ensures
