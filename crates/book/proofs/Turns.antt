@@ -1,4 +1,5 @@
 -- The reads of a row, turn by turn: what is left to do from here comes to what the whole row is. Assumes nothing.
+use Rattle.std.specs.Prelude.{Err, Ok, Result}
 use Prim.Native.Nat.{ℕ, suc, ◌+◌, ◌-◌, ◌≤◌, ◌<◌}
 use mathlib.Core.Path.{◌≡◌, sym, ap, ap₂, ◌∙◌}
 use mathlib.Core.List.{List}
@@ -7,8 +8,6 @@ use lib.ListN.{length, get_or, drop, drop_of_length-le}
 use lib.Seq.{drop-cons}
 use Rattle.sizes.specs.declared.Refusal.{Refusal}
 use Rattle.verdicts.specs.declared.counts.Cell.{Cell}
-use Rattle.verdicts.specs.declared.counts.Found.{Found}
-use Rattle.verdicts.specs.declared.counts.Found.TheVariants as found
 use Rattle.verdicts.specs.declared.counts.Counts.{Counts}
 use Rattle.verdicts.specs.declared.counts.Row.TheVariants.{Refused}
 use Rattle.verdicts.specs.Cells.{no_counts, plus, sum}
@@ -49,8 +48,8 @@ module _ (chapter first end : ℕ) (draws : List ℕ) where
 
     module _ (l : id < end) (e : length draws ≡ end - first) {d t p b : List ℕ} where
       -- a column was found: on to the next id
-      pub found-cell : {f : Found} {cell : Cell} {c' : Counts} → looked f d t p b ≡ read_of chapter desk tree path buffer id (get_or draws (id - first) 0)
-          → f ≡ found.Cell cell → c' ≡ plus cell c → SoFar chapter first end draws whole (id + 1) c' d t p b
+      pub found-cell : {f : Result Cell Refusal} {cell : Cell} {c' : Counts} → looked f d t p b ≡ read_of chapter desk tree path buffer id (get_or draws (id - first) 0)
+          → f ≡ Ok cell → c' ≡ plus cell c → SoFar chapter first end draws whole (id + 1) c' d t p b
       found-cell {cell = cell} {c' = c'} h g v =
           let s : suc id ≡ id + 1 = omega arith in
           let k : suc (id - first) ≡ id + 1 - first = omega (arith, here.from_first) in
@@ -61,13 +60,13 @@ module _ (chapter first end : ℕ) (draws : List ℕ) where
             rest =
                 ap₂ (λ (i j : ℕ). row_from chapter (end - first) i (drop j draws) c' d t p b) (sym s) (sym k)
                 ∙ ap (λ (x : Counts). row_from chapter (end - first) (suc id) (drop (suc (id - first)) draws) x d t p b) v
-                ∙ ap onward (ap (λ (x : Found). looked x d t p b) (sym g) ∙ h) ∙ read_next l e;
+                ∙ ap onward (ap (λ (x : Result Cell Refusal). looked x d t p b) (sym g) ∙ h) ∙ read_next l e;
           }
 
       -- the store refused: the row is over
-      pub found-refusal : {f : Found} {q : Refusal} → looked f d t p b ≡ read_of chapter desk tree path buffer id (get_or draws (id - first) 0)
-          → f ≡ found.Refused q → ran (Refused q) d t p b ≡ whole
-      found-refusal h g = ap onward (ap (λ (x : Found). looked x d t p b) (sym g) ∙ h) ∙ read_next l e
+      pub found-refusal : {f : Result Cell Refusal} {q : Refusal} → looked f d t p b ≡ read_of chapter desk tree path buffer id (get_or draws (id - first) 0)
+          → f ≡ Err q → ran (Refused q) d t p b ≡ whole
+      found-refusal h g = ap onward (ap (λ (x : Result Cell Refusal). looked x d t p b) (sym g) ∙ h) ∙ read_next l e
 
     -- every id was read
     pub all_read : end ≤ id → length draws ≡ end - first → ran (counted_of (end - first) c) desk tree path buffer ≡ whole

@@ -10,12 +10,9 @@ use Rattle.desk.specs.declared.Kind.TheVariants.{Read}
 use Rattle.desk.specs.Layout.{ids_of}
 use Rattle.desk.specs.Readers.{sizes_of}
 use Rattle.desk.specs.Good.{good_desk}
-use Rattle.requests.specs.declared.Answered.{Answered}
-use Rattle.requests.specs.declared.Answered.TheVariants as answered
+use Rattle.requests.specs.Request.{Answered}
 use Rattle.requests.specs.Request.{RequestResult, request_of}
 use Rattle.verdicts.specs.declared.counts.Cell.{Cell}
-use Rattle.verdicts.specs.declared.counts.Found.{Found}
-use Rattle.verdicts.specs.declared.counts.Found.TheVariants as found
 use Rattle.verdicts.specs.declared.counts.Counts.{Counts}
 use Rattle.verdicts.specs.declared.counts.Row.{Row}
 use Rattle.verdicts.specs.declared.counts.Row.TheVariants.{Refused, Counted}
@@ -41,18 +38,18 @@ row_checked desk tree first end draws = first_of (row_rows desk tree first end d
 -- ---- a read of one id: its column, or the store's refusal; and what the four buffers then hold
 
 pub record ReadResult : Type 0 where
-  pub found : Found
+  pub found : Result Cell Refusal
   pub desk : List ℕ
   pub tree : List ℕ
   pub path : List ℕ
   pub buffer : List ℕ
 
-abbrev pub looked : Found → List ℕ → List ℕ → List ℕ → List ℕ → ReadResult
+abbrev pub looked : Result Cell Refusal → List ℕ → List ℕ → List ℕ → List ℕ → ReadResult
 looked f d t p b = record { found = f; desk = d; tree = t; path = p; buffer = b }
 
-abbrev pub found_by : ℕ → Answered → List ℕ → Found
-found_by chapter (answered.Refused q) buffer = found.Refused q
-found_by chapter (answered.Asked leaf f) buffer = found_of chapter f buffer
+abbrev pub found_by : ℕ → Answered → List ℕ → Result Cell Refusal
+found_by chapter (Err q) buffer = Err q
+found_by chapter (Ok (leaf, f)) buffer = found_of chapter f buffer
 
 abbrev pub looked_by : ℕ → RequestResult → ReadResult
 looked_by chapter r = looked (found_by chapter r.answer r.buffer) r.desk r.tree r.path r.buffer
@@ -77,9 +74,9 @@ abbrev pub counted_of : ℕ → Counts → Row
 counted_of n c = Counted c (eqb c.passed n)
 
 -- a store's refusal ends the row
-abbrev pub going_on : ReadResult → (Cell → RunResult) → Found → RunResult
-going_on r more (found.Cell cell) = more cell
-going_on r more (found.Refused q) = ran (Refused q) r.desk r.tree r.path r.buffer
+abbrev pub going_on : ReadResult → (Cell → RunResult) → Result Cell Refusal → RunResult
+going_on r more (Ok cell) = more cell
+going_on r more (Err q) = ran (Refused q) r.desk r.tree r.path r.buffer
 
 unfoldable pub row_from : ℕ → ℕ → ℕ → List ℕ → Counts → List ℕ → List ℕ → List ℕ → List ℕ → RunResult
 row_from chapter n id [] c desk tree path buffer = ran (counted_of n c) desk tree path buffer

@@ -1,4 +1,5 @@
 -- What the verdict book's functions answer, by what was read, made and counted. Assumes nothing.
+use Rattle.std.specs.Prelude.{None, Option, Some}
 use Prim.Native.Nat.{ℕ, ◌^◌, ◌<◌}
 use mathlib.Core.Path.{◌≡◌, sym, ap, ◌∙◌}
 use mathlib.Core.Bool.{true, false}
@@ -8,8 +9,6 @@ use mir.Syntax.{w32}
 use mir.Val.{to_z, of_z}
 use mir.Facts.{to_z_pos}
 use Rattle.verdicts.specs.declared.Entry.{Entry}
-use Rattle.verdicts.specs.declared.Reading.{Reading}
-use Rattle.verdicts.specs.declared.Reading.TheVariants.{Good, Bad}
 use Rattle.verdicts.specs.declared.counts.Row.{Row}
 use Rattle.verdicts.specs.declared.counts.Row.TheVariants.{Refused, Counted}
 use Rattle.verdicts.specs.Verdict.{verdict_number, is_verdict, verdict_of, MakeResult, making, make_of}
@@ -19,21 +18,21 @@ use Rattle.exports.proofs.Signed.{code-back}
 
 -- ---- reading
 
-module _ {r : Reading} (lent : List ℕ) where
-  pub read-good : (e : Entry) → r ≡ Good e → {n : ℕ} → n < 2 ^ 31 → n ≡ verdict_number e.verdict → Answered (to_z w32 n) (said_of e) (reading_code r) (said_or r lent)
+module _ {r : Option Entry} (lent : List ℕ) where
+  pub read-good : (e : Entry) → r ≡ Some e → {n : ℕ} → n < 2 ^ 31 → n ≡ verdict_number e.verdict → Answered (to_z w32 n) (said_of e) (reading_code r) (said_or r lent)
   unfolding reading_code said_or
   read-good e h s k =
       record {
         number_is = to_z_pos w32 s ∙ ap pos k ∙ sym (ap reading_code h);
-        buffer_is = sym (ap (λ (t : Reading). said_or t lent) h);
+        buffer_is = sym (ap (λ (t : Option Entry). said_or t lent) h);
       }
 
-  pub read-bad : r ≡ Bad → Answered (pos no_verdict) lent (reading_code r) (said_or r lent)
+  pub read-bad : r ≡ None → Answered (pos no_verdict) lent (reading_code r) (said_or r lent)
   unfolding reading_code said_or
   read-bad h =
       record {
         number_is = sym (ap reading_code h);
-        buffer_is = sym (ap (λ (t : Reading). said_or t lent) h);
+        buffer_is = sym (ap (λ (t : Option Entry). said_or t lent) h);
       }
 
 -- ---- making

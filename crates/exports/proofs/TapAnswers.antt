@@ -17,8 +17,6 @@ use Rattle.printing.specs.Printing.{text_of}
 use Rattle.sheets.specs.Sheet.{empty_sheet}
 use Rattle.tap.specs.declared.Taken.{Taken}
 use Rattle.tap.specs.declared.Taken.TheVariants as taken
-use Rattle.tap.specs.declared.Printed.{Printed}
-use Rattle.tap.specs.declared.Printed.TheVariants as printed
 use Rattle.passing.specs.Passing.{SheetResult, pass_of}
 use Rattle.tap.specs.Tap.{WriteResult, wrote, write_checked, printed_by, write_by, write_of}
 use Rattle.tap.proofs.TextWritten.{write-passed}
@@ -52,28 +50,28 @@ splice-long xs ys = omega (arith, length-append (take 0 xs) (ys ++ drop (0 + len
 
 -- what was handed out has the buffer's length, and the text lies in it
 by-pass : (chapter n : ℕ) (r : SheetResult) (out d t o : List ℕ) (len : ℕ) → length o ≡ length out → (x : Result Unit Refusal)
-    → wrote (printed.Length len) d t o ≡ printed_by x chapter n r out → len ≤ length out
+    → wrote (Ok len) d t o ≡ printed_by x chapter n r out → len ≤ length out
 by-pass chapter n r out d t o len k (Err q) e =
-    let a : printed.Length len ≡ printed.Refused q = ap (λ (w : WriteResult). w.answer) e in
+    let a : Ok len ≡ Err q = ap (λ (w : WriteResult). w.answer) e in
     let z : ◌≡◌ {A = ℕ} 0 1 = cc in
     absurd (omega arith)
 by-pass chapter n r out d t o len k (Ok tt) e =
     let ys = text_of chapter n r.sheet in
-    let a : printed.Length len ≡ printed.Length (length ys) = ap (λ (w : WriteResult). w.answer) e in
+    let a : Ok len ≡ Ok (length ys) = ap (λ (w : WriteResult). w.answer) e in
     let l : len ≡ length ys = cc in
     let m : length o ≡ length (splice out 0 ys) = ap (λ (w : WriteResult). length w.out) e in
     omega (arith, l, m, k, splice-long out ys)
 
 module _ (desk tree : List ℕ) (chapter first end : ℕ) (draws out d t o : List ℕ) (len : ℕ) (high : end < 65536) (k : length o ≡ length out) where
   by-checks : (x : Result Unit Refusal) → write_checked desk tree first end draws out ≡ x
-      → wrote (printed.Length len) d t o ≡ write_by x desk tree chapter first end draws out → len < 2 ^ 31
+      → wrote (Ok len) d t o ≡ write_by x desk tree chapter first end draws out → len < 2 ^ 31
   by-checks (Err q) h e =
-      let a : printed.Length len ≡ printed.Refused q = ap (λ (w : WriteResult). w.answer) e in
+      let a : Ok len ≡ Err q = ap (λ (w : WriteResult). w.answer) e in
       let z : ◌≡◌ {A = ℕ} 0 1 = cc in
       absurd (omega arith)
   by-checks (Ok tt) h e =
       let r = pass_of desk tree first draws (empty_sheet (end - first)) in
       omega (arith, by-pass chapter (end - first) r out d t o len k r.answer e, (write-passed h).room, high)
 
-  pub write-short : {a : Printed} → a ≡ printed.Length len → wrote a d t o ≡ write_of desk tree chapter first end draws out → len < 2 ^ 31
-  write-short h e = by-checks (write_checked desk tree first end draws out) refl (ap (λ (a : Printed). wrote a d t o) (sym h) ∙ e)
+  pub write-short : {a : Result ℕ Refusal} → a ≡ Ok len → wrote a d t o ≡ write_of desk tree chapter first end draws out → len < 2 ^ 31
+  write-short h e = by-checks (write_checked desk tree first end draws out) refl (ap (λ (a : Result ℕ Refusal). wrote a d t o) (sym h) ∙ e)

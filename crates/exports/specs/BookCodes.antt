@@ -1,8 +1,6 @@
 -- The numbers that the C interface of the verdict book answers with, and what it hands out beside them. Assumes nothing.
-use Rattle.std.specs.Prelude.{ℕ, ◌≡◌, Bool, true, false, cond, List, [], ◌∷◌, ℤ, pos}
+use Rattle.std.specs.Prelude.{ℕ, ◌≡◌, Bool, true, false, cond, List, [], ◌∷◌, ℤ, pos, None, Option, Some}
 use Rattle.verdicts.specs.declared.Entry.{Entry}
-use Rattle.verdicts.specs.declared.Reading.{Reading}
-use Rattle.verdicts.specs.declared.Reading.TheVariants.{Good, Bad}
 use Rattle.verdicts.specs.declared.counts.Counts.{Counts}
 use Rattle.verdicts.specs.declared.counts.Row.{Row}
 use Rattle.verdicts.specs.declared.counts.Row.TheVariants.{Refused, Counted}
@@ -15,18 +13,18 @@ use Rattle.exports.specs.Codes.{refusal_code}
 abbrev pub no_verdict : ℕ
 no_verdict = 0
 
-unfoldable pub reading_code : Reading → ℤ
-reading_code (Good e) = pos (verdict_number e.verdict)
-reading_code Bad = pos no_verdict
+unfoldable pub reading_code : Option Entry → ℤ
+reading_code (Some e) = pos (verdict_number e.verdict)
+reading_code None = pos no_verdict
 
 -- what a record says beside its verdict: chapter, suite year, the name's length
 abbrev pub said_of : Entry → List ℕ
 said_of e = e.chapter ∷ e.year ∷ e.length ∷ []
 
 -- a bad record says nothing: what was lent stays
-unfoldable pub said_or : Reading → List ℕ → List ℕ
-said_or (Good e) lent = said_of e
-said_or Bad lent = lent
+unfoldable pub said_or : Option Entry → List ℕ → List ℕ
+said_or (Some e) lent = said_of e
+said_or None lent = lent
 
 -- ---- a record made of a verdict's number: of another number none is made
 

@@ -1,11 +1,10 @@
 -- The numbers that the C interface of TAP answers with, and what it hands out beside them. Assumes nothing.
-use Rattle.std.specs.Prelude.{ℕ, ◌≡◌, List, [], ◌∷◌, ℤ, pos, neg_ℤ}
+use Rattle.sizes.specs.declared.Refusal.{Refusal}
+use Rattle.std.specs.Prelude.{ℕ, ◌≡◌, List, [], ◌∷◌, ℤ, pos, neg_ℤ, Err, Ok, Result}
 use Rattle.taking.specs.declared.Trouble.{Trouble}
 use Rattle.taking.specs.Taking.{trouble_number}
 use Rattle.tap.specs.declared.Taken.{Taken}
 use Rattle.tap.specs.declared.Taken.TheVariants as taken
-use Rattle.tap.specs.declared.Printed.{Printed}
-use Rattle.tap.specs.declared.Printed.TheVariants as printed
 use Rattle.tap.specs.Tap.{ReadResult, WriteResult}
 use Rattle.exports.specs.Codes.{refusal_code}
 
@@ -36,9 +35,9 @@ pub record ReadAnswers (number : ℤ) (desk tree line lent : List ℕ) (due : Re
 
 -- ---- writing: the length of the text
 
-unfoldable pub printed_code : Printed → ℤ
-printed_code (printed.Length n) = pos n
-printed_code (printed.Refused r) = refusal_code r
+unfoldable pub printed_code : Result ℕ Refusal → ℤ
+printed_code (Ok n) = pos n
+printed_code (Err r) = refusal_code r
 
 pub record WriteAnswers (number : ℤ) (desk tree out : List ℕ) (due : WriteResult) : Type 0 where
   pub number_is : number ≡ printed_code due.answer

@@ -9,8 +9,7 @@ use Rattle.desk.specs.declared.Kind.TheVariants.{Read, Write}
 use Rattle.desk.specs.Readers.{sizes_of}
 use Rattle.store.specs.declared.Finished.{Finished}
 use Rattle.store.specs.declared.Finished.TheVariants as finished
-use Rattle.requests.specs.declared.Answered.{Answered}
-use Rattle.requests.specs.declared.Answered.TheVariants as answered
+use Rattle.requests.specs.Request.{Answered}
 use Rattle.requests.specs.Request.{RequestResult, request_of}
 use Rattle.sheets.specs.Sheet.{entry_start, entry_at, is_record}
 
@@ -25,8 +24,8 @@ finished_outcome (Ok finished.Done) = Ok tt
 finished_outcome (Err q) = Err q
 
 abbrev pub outcome_of : Answered → Result Unit Refusal
-outcome_of (answered.Refused q) = Err q
-outcome_of (answered.Asked leaf f) = finished_outcome f
+outcome_of (Err q) = Err q
+outcome_of (Ok (leaf, f)) = finished_outcome f
 
 -- ---- one request, its entry lent as the record
 

@@ -1,4 +1,5 @@
 -- The lines of a sheet's entries: what each entry comes to, and all of them one after another. Assumes nothing.
+use Rattle.std.specs.Prelude.{None, Some}
 use Prim.Native.Nat.{ℕ, zero, suc, ◌+◌, ◌*◌, ◌≤◌, ◌<◌}
 use mathlib.Core.Path.{◌≡◌, refl, sym, ap, ◌∙◌}
 use mathlib.Core.Bool.{Bool, true, false, ◌&&◌}
@@ -13,7 +14,6 @@ use Rattle.sizes.specs.Sizes.{record_len}
 use Rattle.listing.specs.Listing.{Wrote}
 use Rattle.listing.proofs.Written.{and_then}
 use Rattle.verdicts.specs.declared.Entry.{Entry}
-use Rattle.verdicts.specs.declared.Reading.TheVariants.{Good, Bad}
 use Rattle.verdicts.specs.Verdict.{reading_of, name_in}
 use Rattle.verdicts.proofs.GoodRecord.{bad-length}
 use Rattle.sheets.specs.Sheet.{entry_at}
@@ -27,16 +27,16 @@ wrote_none xs at = record { is = sym (splice-nil xs at); next_is = omega arith }
 -- ---- one entry
 
 -- what can be read has a record's length
-pub good_length : (rec : List ℕ) (e : Entry) → reading_of rec ≡ Good e → length rec ≡ record_len
+pub good_length : (rec : List ℕ) (e : Entry) → reading_of rec ≡ Some e → length rec ≡ record_len
 good_length rec e h =
     by_cases (eqb (length rec) record_len) (eqb-true (length rec) record_len)
     (λ b. let k = bad-length rec (eqb-false (length rec) record_len b) in let z : ◌≡◌ {A = ℕ} 0 1 = cc in absurd (omega arith))
 
-pub entry-bad : (chapter number : ℕ) (rec : List ℕ) → reading_of rec ≡ Bad → entry_text chapter number rec ≡ []
+pub entry-bad : (chapter number : ℕ) (rec : List ℕ) → reading_of rec ≡ None → entry_text chapter number rec ≡ []
 unfolding entry_text
 entry-bad chapter number rec h = rw h
 
-module _ (chapter number : ℕ) (rec : List ℕ) (e : Entry) (h : reading_of rec ≡ Good e) {p : Bool} (k : p ≡ is_printable (name_in rec e)) where
+module _ (chapter number : ℕ) (rec : List ℕ) (e : Entry) (h : reading_of rec ≡ Some e) {p : Bool} (k : p ≡ is_printable (name_in rec e)) where
   pub entry-none : (eqb e.chapter chapter && p) ≡ false → entry_text chapter number rec ≡ []
   unfolding entry_text
   entry-none g = rw (h, ← k, g)

@@ -1,16 +1,15 @@
 -- The text that says a sheet: version, plan, and a line for each entry that is a verdict of the chapter. Assumes nothing.
-use Rattle.std.specs.Prelude.{ℕ, zero, suc, ◌+◌, cond, ◌&&◌, List, [], ◌++◌, eqb}
-use Rattle.verdicts.specs.declared.Reading.{Reading}
-use Rattle.verdicts.specs.declared.Reading.TheVariants.{Good, Bad}
+use Rattle.verdicts.specs.declared.Entry.{Entry}
+use Rattle.std.specs.Prelude.{ℕ, zero, suc, ◌+◌, cond, ◌&&◌, List, [], ◌++◌, eqb, None, Option, Some}
 use Rattle.verdicts.specs.Verdict.{reading_of, name_in}
 use Rattle.printing.specs.Printed.{version_text, plan_text, verdict_text, is_printable}
 use Rattle.sheets.specs.Sheet.{entry_at}
 
 -- a record that is bad or of another chapter gets no line, nor does a name that no line can say
-abbrev pub reading_text : ℕ → ℕ → List ℕ → Reading → List ℕ
-reading_text chapter number rec (Good e) =
+abbrev pub reading_text : ℕ → ℕ → List ℕ → Option Entry → List ℕ
+reading_text chapter number rec (Some e) =
     cond (eqb e.chapter chapter && is_printable (name_in rec e)) (verdict_text number e.verdict (name_in rec e)) []
-reading_text chapter number rec Bad = []
+reading_text chapter number rec None = []
 
 unfoldable pub entry_text : ℕ → ℕ → List ℕ → List ℕ
 entry_text chapter number rec = reading_text chapter number rec (reading_of rec)

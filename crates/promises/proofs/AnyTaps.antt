@@ -20,7 +20,6 @@ use Rattle.taking.specs.Taking.{take_of}
 use Rattle.printing.specs.Printed.{room_of}
 use Rattle.printing.specs.Printing.{text_of}
 use Rattle.tap.specs.declared.Taken.TheVariants as taken
-use Rattle.tap.specs.declared.Printed.TheVariants as printed
 use Rattle.passing.specs.Passing.{SheetResult, pass_of}
 use Rattle.tap.specs.Tap.{ReadResult, taken_by, read_text, read_by, read_of, WriteResult, write_rows, write_checked, printed_by, write_by, write_of}
 use Rattle.promises.specs.Taps.{AnyTap}
@@ -83,7 +82,7 @@ module _ (desk tree : List ℕ) (chapter year first end : ℕ) (draws text : Lis
 
 -- ---- so was one that was written; no text where there is a refusal
 
-not-printed : (q : Refusal) (len : ℕ) → printed.Length len ≡ printed.Refused q → ⊥
+not-printed : (q : Refusal) (len : ℕ) → Ok len ≡ Err q → ⊥
 not-printed q len h = let z : ◌≡◌ {A = ℕ} 0 1 = cc in omega arith
 
 pub row-checked : (desk tree : List ℕ) (first end : ℕ) (draws out : List ℕ) → write_checked desk tree first end draws out ≡ Ok tt
@@ -101,11 +100,11 @@ write_checked_lem desk tree first end draws out h l =
     rw (n.0, n.1.0, n.1.1.0, eq-eqb (length out) (room_of (end - first)) l) refl
 
 module _ (chapter n : ℕ) (r : SheetResult) (out : List ℕ) where
-  kept_by : (q : Refusal) (o : Result Unit Refusal) → (printed_by o chapter n r out).answer ≡ printed.Refused q → (printed_by o chapter n r out).out ≡ out
+  kept_by : (q : Refusal) (o : Result Unit Refusal) → (printed_by o chapter n r out).answer ≡ Err q → (printed_by o chapter n r out).out ≡ out
   kept_by q (Err p) h = refl
   kept_by q (Ok tt) h = absurd (not-printed q _ h)
 
-  pub printed-same : (q : Refusal) (o : Result Unit Refusal) → (printed_by o chapter n r out).answer ≡ printed.Refused q → o ≡ Err q
+  pub printed-same : (q : Refusal) (o : Result Unit Refusal) → (printed_by o chapter n r out).answer ≡ Err q → o ≡ Err q
   printed-same q (Ok tt) h = absurd (not-printed q _ h)
   printed-same q (Err p) h = let k : p ≡ q = cc in ap Err k
 
@@ -115,7 +114,7 @@ module _ (chapter n : ℕ) (r : SheetResult) (out : List ℕ) where
     pub length-is : len ≡ length (text_of chapter n r.sheet)
     pub out_is : now ≡ splice out 0 (text_of chapter n r.sheet)
 
-  says-by : (len : ℕ) (o : Result Unit Refusal) → r.answer ≡ o → (printed_by o chapter n r out).answer ≡ printed.Length len → Says len (printed_by o chapter n r out).out
+  says-by : (len : ℕ) (o : Result Unit Refusal) → r.answer ≡ o → (printed_by o chapter n r out).answer ≡ Ok len → Says len (printed_by o chapter n r out).out
   says-by len (Err p) e h = absurd (not-printed p len (sym h))
   says-by len (Ok tt) e h = record { passes = e; length-is = cc; out_is = refl }
 
@@ -123,7 +122,7 @@ module _ (desk tree : List ℕ) (chapter first end : ℕ) (draws out : List ℕ)
   abbrev pub written : SheetResult
   written = pass_of desk tree first draws (empty_sheet (end - first))
 
-  kept_out : (q : Refusal) (o : Result Unit Refusal) → (write_by o desk tree chapter first end draws out).answer ≡ printed.Refused q
+  kept_out : (q : Refusal) (o : Result Unit Refusal) → (write_by o desk tree chapter first end draws out).answer ≡ Err q
       → (write_by o desk tree chapter first end draws out).out ≡ out
   kept_out q (Err p) h = refl
   kept_out q (Ok tt) h = kept_by chapter (end - first) written out q written.answer h
@@ -132,7 +131,7 @@ module _ (desk tree : List ℕ) (chapter first end : ℕ) (draws out : List ℕ)
     pub checked : write_checked desk tree first end draws out ≡ Ok tt
     pub says : Says chapter (end - first) written out len (write_of desk tree chapter first end draws out).out
 
-  pub was-written : (len : ℕ) → (write_of desk tree chapter first end draws out).answer ≡ printed.Length len → WasWritten len
+  pub was-written : (len : ℕ) → (write_of desk tree chapter first end draws out).answer ≡ Ok len → WasWritten len
   was-written len h = go (write_checked desk tree first end draws out) refl
     where
       go : (o : Result Unit Refusal) → write_checked desk tree first end draws out ≡ o → WasWritten len

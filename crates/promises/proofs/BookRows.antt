@@ -24,11 +24,8 @@ use Rattle.asks.proofs.Opened.{opened-kind}
 use Rattle.store.specs.declared.Finished.TheVariants as finished
 use Rattle.store.specs.Steps.{answer_for, was_marked}
 use Rattle.store.specs.Finish.{finished_or, finish_of, finish_checked}
-use Rattle.requests.specs.declared.Answered.TheVariants as answered
 use Rattle.requests.specs.Request.{finished_by, asked_for, request_of}
 use Rattle.verdicts.specs.declared.counts.Cell.{Cell}
-use Rattle.verdicts.specs.declared.counts.Found.{Found}
-use Rattle.verdicts.specs.declared.counts.Found.TheVariants as found
 use Rattle.verdicts.specs.declared.counts.Counts.{Counts}
 use Rattle.verdicts.specs.declared.counts.Row.{Row}
 use Rattle.verdicts.specs.declared.counts.Row.TheVariants.{Refused, Counted}
@@ -72,11 +69,11 @@ adds_none n c c' complete h =
     (ap sum (sym e) ∙ omega arith, sym k ∙ ap (λ (z : Counts). eqb z.passed n) e)
 
 adds_one : (n : ℕ) (c : Counts) (x : ℕ) (xs : List ℕ) (r : ReadResult) (more : Cell → RunResult)
-    → ((cell : Cell) → Adds n (plus cell c) xs (more cell).answer) → (f : Found) → Adds n c (x ∷ xs) (going_on r more f).answer
-adds_one n c x xs r more ih (found.Cell cell) c' complete h =
+    → ((cell : Cell) → Adds n (plus cell c) xs (more cell).answer) → (f : Result Cell Refusal) → Adds n c (x ∷ xs) (going_on r more f).answer
+adds_one n c x xs r more ih (Ok cell) c' complete h =
     let k = ih cell c' complete h in
     (omega (arith, k.0, sum-plus cell c), k.1)
-adds_one n c x xs r more ih (found.Refused q) c' complete h = absurd (not-counted q c' complete h)
+adds_one n c x xs r more ih (Err q) c' complete h = absurd (not-counted q c' complete h)
 
 run-adds : (chapter n id : ℕ) (xs : List ℕ) (c : Counts) (desk tree path buffer : List ℕ) → Adds n c xs (row_from chapter n id xs c desk tree path buffer).answer
 unfolding row_from
@@ -95,14 +92,14 @@ not_done (Ok tt) true h = let z : ◌≡◌ {A = ℕ} 0 1 = cc in omega arith
 not_done (Ok tt) false h = let z : ◌≡◌ {A = ℕ} 0 1 = cc in omega arith
 
 finished-not : (o : Result Unit Refusal) (s : Sizes) (x : ℕ) (desk tree path buffer : List ℕ) (p : ℕ) → kind_asked desk ≡ Read
-    → (finished_by o s x desk tree path buffer).answer ≢ answered.Asked p (Ok finished.Done)
+    → (finished_by o s x desk tree path buffer).answer ≢ Ok (p, Ok finished.Done)
 finished-not (Err q) s x desk tree path buffer p k h = let z : ◌≡◌ {A = ℕ} 0 1 = cc in omega arith
 finished-not (Ok tt) s x desk tree path buffer p k h =
     let e : (finish_of real desk path buffer).answer ≡ Ok finished.Done = cc in
     let c = finish_checked real desk path buffer in
     not_done c (was_marked real desk path) (ap (λ (z : Kind). finished_or c (answer_for z (was_marked real desk path))) (sym k) ∙ e)
 
-read-not : (desk tree path buffer : List ℕ) (id draw p : ℕ) → (request_of desk tree path buffer Read id draw).answer ≢ answered.Asked p (Ok finished.Done)
+read-not : (desk tree path buffer : List ℕ) (id draw p : ℕ) → (request_of desk tree path buffer Read id draw).answer ≢ Ok (p, Ok finished.Done)
 read-not desk tree path buffer id draw p e = go (ask_of desk Read id draw buffer).answer refl
   where
     d : List ℕ
@@ -110,7 +107,7 @@ read-not desk tree path buffer id draw p e = go (ask_of desk Read id draw buffer
 
     go : (a : Result ℕ Refusal) → (ask_of desk Read id draw buffer).answer ≡ a → ⊥
     go (Err q) h =
-        let w : answered.Refused q ≡ answered.Asked p (Ok finished.Done) = sym (ap (λ (a : Result ℕ Refusal). (asked_for a d tree path buffer).answer) h) ∙ e in
+        let w : Err q ≡ Ok (p, Ok finished.Done) = sym (ap (λ (a : Result ℕ Refusal). (asked_for a d tree path buffer).answer) h) ∙ e in
         let z : ◌≡◌ {A = ℕ} 0 1 = cc in
         omega arith
     go (Ok x) h =

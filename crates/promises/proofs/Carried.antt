@@ -1,5 +1,5 @@
 -- A text that is written from one store and read into another: each id holds what comes of its line. Assumes nothing.
-use Rattle.std.specs.Prelude.{Ok}
+use Rattle.std.specs.Prelude.{Ok, None, Some}
 use Prim.Native.Nat.{ℕ, ◌+◌, ◌-◌, ◌<◌}
 use mathlib.Core.Path.{◌≡◌, refl, sym, ap, ap₂, subst, ◌∙◌}
 use mathlib.Core.Logic.{◌≢◌, ◌⊎◌, inl, inr, ⊎_elim}
@@ -18,7 +18,6 @@ use Rattle.keeping.specs.Table.{Table}
 use Rattle.verdicts.specs.declared.Verdict.{Verdict}
 use Rattle.verdicts.specs.declared.Verdict.TheVariants as verdict
 use Rattle.verdicts.specs.declared.Entry.{Entry}
-use Rattle.verdicts.specs.declared.Reading.TheVariants.{Good, Bad}
 use Rattle.verdicts.specs.Verdict.{good_record, reading_of, name_in, record_of}
 use Rattle.verdicts.proofs.Laws.{verdict-laws}
 use Rattle.book.proofs.Passed.{row-passed}
@@ -51,7 +50,7 @@ made-record verdict.Skipped chapter year name = refl
 made-record verdict.Error chapter year name = refl
 
 -- no verdict has the number 0
-none-bad : reading_of (zeros record_len) ≡ Bad
+none-bad : reading_of (zeros record_len) ≡ None
 unfolding good_record
 none-bad = refl
 
@@ -60,7 +59,7 @@ none-unsaid chapter = ap (reading_said chapter (zeros record_len)) none-bad
 
 pass_of : (chapter : ℕ) (held : Option (List ℕ)) → WasPass chapter (entry_held held) → PassHeld chapter held
 pass_of chapter none w =
-    let e : Bad ≡ Good w.says = sym none-bad ∙ w.reads in
+    let e : None ≡ Some w.says = sym none-bad ∙ w.reads in
     let z : ◌≡◌ {A = ℕ} 0 1 = cc in
     absurd (omega arith)
 pass_of chapter (some rec) w = record { bytes = rec; says = w.says; held_is = refl; reads = w.reads; passes = w.passes; of_chapter = w.of_chapter }
@@ -80,7 +79,7 @@ module _ (chapter year n : ℕ) (low : n < 65536) (sheet : List ℕ) (i : ℕ) (
   came-none h =
       ap (λ (entry : List ℕ). entry_or entry before) (returning.none_comes chapter year n sheet low i inside (ap (is_said chapter) is ∙ h))
 
-  module _ (rec : List ℕ) (e : Entry) (h : held ≡ some rec) (r : reading_of rec ≡ Good e) (c : e.chapter ≡ chapter) (p : Plain (name_in rec e)) where
+  module _ (rec : List ℕ) (e : Entry) (h : held ≡ some rec) (r : reading_of rec ≡ Some e) (c : e.chapter ≡ chapter) (p : Plain (name_in rec e)) where
     here : entry_at sheet i ≡ rec
     here = is ∙ ap entry_held h
 

@@ -15,7 +15,6 @@ use Rattle.desk.specs.Layout.{ids_of}
 use Rattle.desk.specs.Readers.{sizes_of}
 use Rattle.items.specs.Real.{real}
 use Rattle.items.proofs.Sound.{real-sound}
-use Rattle.requests.specs.declared.Answered.TheVariants as answered
 use Rattle.requests.specs.Request.{RequestResult}
 use Rattle.keeping.specs.Table.{plain_answer}
 use Rattle.book.specs.MatrixRow.{row_checked}
@@ -87,10 +86,10 @@ module _ (b : Start) (lent : List ℕ) (p : Proper b lent) (tree : List ℕ) (si
         (record { id_low = low; id_high = high; leaf_low = leaf; fits = request.record-fits kind buffer long }) got buffer
         (request.got-length b byte ts reached path buffer kind id draw fit) long)
 
-    pub first-answer : (request_for ts path buffer kind id draw).answer ≡ answered.Asked (ts.state.drawn id) (plain_answer kind none)
+    pub first-answer : (request_for ts path buffer kind id draw).answer ≡ Ok ((ts.state.drawn id), plain_answer kind none)
     first-answer =
         let byte = p.room_byte in
         ap (λ (z : RequestResult). z.answer) (request.request-is b byte ts reached path buffer kind id draw fit)
-        ∙ ap (answered.Asked (ts.state.drawn id))
+        ∙ ap (answered_Asked (ts.state.drawn id))
         ((request.one_kept b byte ts reached path buffer kind id draw fit).plain (request.got b byte ts reached path buffer kind id draw fit) buffer
         (request.handed b byte ts reached path buffer kind id draw fit) finishes (as_request kind id draw buffer) refl).0

@@ -18,8 +18,7 @@ use Rattle.sizes.proofs.Rows.{not-refused}
 use Rattle.desk.specs.Readers.{sizes_of}
 use Rattle.items.specs.Real.{real}
 use Rattle.store.specs.declared.Finished.TheVariants as finished
-use Rattle.requests.specs.declared.Answered.{Answered}
-use Rattle.requests.specs.declared.Answered.TheVariants as answered
+use Rattle.requests.specs.Request.{Answered}
 use Rattle.requests.specs.Request.{requested, request_of}
 use Rattle.keeping.specs.Table.{Table, plain_buffer, plain_table}
 use Rattle.sheets.specs.Sheet.{entry_start, entry_at}
@@ -62,11 +61,11 @@ module _ (b : Start) (table : Table) (id : ℕ) (entry : List ℕ) where
         }
 
     entry-by : (a : Answered) → RequestIs b table (kind_of entry) id entry a d t now → EntryIs (entry_by (requested a d t p now))
-    entry-by (answered.Refused q) w = refused-is q w.stands w.not_forged
-    entry-by (answered.Asked leaf (Ok finished.Record)) w = done-is w.stands (w.plain accept-record).1
-    entry-by (answered.Asked leaf (Ok finished.Never)) w = done-is w.stands (w.plain accept-never).1
-    entry-by (answered.Asked leaf (Ok finished.Done)) w = done-is w.stands (w.plain accept-done).1
-    entry-by (answered.Asked leaf (Err q)) w = refused-is q w.stands w.not_forged
+    entry-by (Err q) w = refused-is q w.stands w.not_forged
+    entry-by (Ok (leaf, Ok finished.Record)) w = done-is w.stands (w.plain accept-record).1
+    entry-by (Ok (leaf, Ok finished.Never)) w = done-is w.stands (w.plain accept-never).1
+    entry-by (Ok (leaf, Ok finished.Done)) w = done-is w.stands (w.plain accept-done).1
+    entry-by (Ok (leaf, Err q)) w = refused-is q w.stands w.not_forged
 
 entry-is : (b : Start) → b.room < 256 → (table : Table) (desk tree path entry : List ℕ) (id x : ℕ) → Stands b table desk tree
     → EntryIs b table id entry (request_entry desk tree path entry id x)

@@ -13,12 +13,10 @@ use Rattle.sizes.specs.declared.Refusal.TheVariants.{Forged}
 use Rattle.desk.specs.declared.Kind.TheVariants.{Read}
 use Rattle.store.specs.declared.Finished.{Finished}
 use Rattle.store.specs.declared.Finished.TheVariants as finished
-use Rattle.requests.specs.declared.Answered.{Answered}
-use Rattle.requests.specs.declared.Answered.TheVariants as answered
+use Rattle.requests.specs.Request.{Answered}
 use Rattle.requests.specs.Request.{requested, request_of}
 use Rattle.keeping.specs.Table.{Table, plain_answer, plain_buffer}
 use Rattle.verdicts.specs.declared.counts.Cell.{Cell}
-use Rattle.verdicts.specs.declared.counts.Found.TheVariants as found
 use Rattle.verdicts.specs.Cells.{record_cell, found_of}
 use Rattle.book.specs.MatrixRow.{ReadResult, looked_by, read_of, row_rows, row_checked}
 use Rattle.passing.specs.Passing.{finished_outcome}
@@ -41,7 +39,7 @@ read_same (Err q) id content table u = refl
 
 cell-of : (chapter : ℕ) (held : Option (List ℕ)) (buffer now : List ℕ) (f : Result Finished Refusal)
     → (Accepted f → (f ≡ plain_answer Read held) × (now ≡ plain_buffer Read held buffer))
-    → (cell : Cell) → found_of chapter f now ≡ found.Cell cell → cell ≡ table_cell chapter held
+    → (cell : Cell) → found_of chapter f now ≡ Ok cell → cell ≡ table_cell chapter held
 cell-of chapter none buffer now (Ok finished.Record) w cell h =
     let e = (w accept-record).0 in
     let z : ◌≡◌ {A = ℕ} 0 1 = cc in
@@ -67,7 +65,7 @@ cell-of chapter held buffer now (Err q) w cell h =
     let z : ◌≡◌ {A = ℕ} 0 1 = cc in
     absurd (omega arith)
 
-pub found-refused : (chapter : ℕ) (now : List ℕ) (q : Refusal) (f : Result Finished Refusal) → found_of chapter f now ≡ found.Refused q → f ≡ Err q
+pub found-refused : (chapter : ℕ) (now : List ℕ) (q : Refusal) (f : Result Finished Refusal) → found_of chapter f now ≡ Err q → f ≡ Err q
 found-refused chapter now q (Ok finished.Record) h = let z : ◌≡◌ {A = ℕ} 0 1 = cc in absurd (omega arith)
 found-refused chapter now q (Ok finished.Never) h = let z : ◌≡◌ {A = ℕ} 0 1 = cc in absurd (omega arith)
 found-refused chapter now q (Ok finished.Done) h = let z : ◌≡◌ {A = ℕ} 0 1 = cc in absurd (omega arith)
@@ -77,7 +75,7 @@ pub row_low : (desk tree : List ℕ) (first end : ℕ) (draws : List ℕ) (q : R
 unfolding row_checked
 row_low desk tree first end draws q h = not_low q (low-refusal (row_rows desk tree first end draws) (lit< tt, (lit< tt, (lit< tt, tt))) q h)
 
-refused-cell : (q : Refusal) (cell cell' : Cell) → found.Refused q ≡ found.Cell cell → cell ≡ cell'
+refused-cell : (q : Refusal) (cell cell' : Cell) → Err q ≡ Ok cell → cell ≡ cell'
 refused-cell q cell cell' h = let z : ◌≡◌ {A = ℕ} 0 1 = cc in absurd (omega arith)
 
 -- ---- one read
@@ -85,18 +83,18 @@ refused-cell q cell cell' h = let z : ◌≡◌ {A = ℕ} 0 1 = cc in absurd (om
 module _ (b : Start) (table : Table) where
   pub record ReadIs (chapter id : ℕ) (r : ReadResult) : Type 0 where
     pub stands : Stands b table r.desk r.tree
-    pub cell-is : (cell : Cell) → r.found ≡ found.Cell cell → cell ≡ table_cell chapter (table id)
-    pub not_forged : r.found ≢ found.Refused Forged
+    pub cell-is : (cell : Cell) → r.found ≡ Ok cell → cell ≡ table_cell chapter (table id)
+    pub not_forged : r.found ≢ Err Forged
 
   read_by : (chapter id : ℕ) (buffer : List ℕ) (a : Answered) (d t p now : List ℕ) → RequestIs b table Read id buffer a d t now
       → ReadIs chapter id (looked_by chapter (requested a d t p now))
-  read_by chapter id buffer (answered.Refused q) d t p now w =
+  read_by chapter id buffer (Err q) d t p now w =
       record {
         stands = w.stands;
         cell-is = λ cell h. refused-cell q cell (table_cell chapter (table id)) h;
         not_forged = λ h. w.not_forged (let k : q ≡ Forged = cc in ap Err k);
       }
-  read_by chapter id buffer (answered.Asked leaf f) d t p now w =
+  read_by chapter id buffer (Ok (leaf, f)) d t p now w =
       record {
         stands = stands-as b (table_as f Read id buffer table) table d t (read_same f id buffer table) w.stands;
         cell-is = cell-of chapter (table id) buffer now f w.plain;

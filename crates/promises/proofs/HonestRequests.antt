@@ -22,8 +22,7 @@ use Rattle.items.proofs.Sound.{real-sound}
 use Rattle.asks.specs.Ask.{ask_rows, ask_checked, ask_of}
 use Rattle.store.specs.declared.Finished.{Finished}
 use Rattle.store.specs.declared.Finished.TheVariants as finished
-use Rattle.requests.specs.declared.Answered.{Answered}
-use Rattle.requests.specs.declared.Answered.TheVariants as answered
+use Rattle.requests.specs.Request.{Answered}
 use Rattle.requests.specs.Request.{RequestResult, request_of}
 use Rattle.keeping.specs.Table.{Table, plain_answer, plain_buffer, plain_held}
 use Rattle.passing.specs.Passing.{finished_outcome, outcome_of}
@@ -67,8 +66,8 @@ buffer-long Write held buffer l h = l
 -- ---- the table after a request, by its answer
 
 abbrev pub table_by : Answered → Kind → ℕ → List ℕ → Table → Table
-table_by (answered.Refused q) kind id content table = table
-table_by (answered.Asked p f) kind id content table = table_as f kind id content table
+table_by (Err q) kind id content table = table
+table_by (Ok (p, f)) kind id content table = table_as f kind id content table
 
 as_same : (f : Result Finished Refusal) (kind : Kind) (id : ℕ) (content : List ℕ) (table table' : Table) (u : ℕ) → table u ≡ table' u
     → table_as f kind id content table u ≡ table_as f kind id content table' u
@@ -102,8 +101,8 @@ finish-refused (Err r) q h = ap Err (same-refusal r q h)
 
 -- an accepted finish answers as the plain table does, and the buffer holds what the table's would
 abbrev pub Plain : Answered → Kind → Option (List ℕ) → List ℕ → List ℕ → Type 0
-Plain (answered.Refused q) kind held buffer now = Unit {0}
-Plain (answered.Asked p f) kind held buffer now = Accepted f → (f ≡ plain_answer kind held) × (now ≡ plain_buffer kind held buffer)
+Plain (Err q) kind held buffer now = Unit {0}
+Plain (Ok (p, f)) kind held buffer now = Accepted f → (f ≡ plain_answer kind held) × (now ≡ plain_buffer kind held buffer)
 
 pub record RequestIs (b : Start) (table : Table) (kind : Kind) (id : ℕ) (buffer : List ℕ) (a : Answered) (desk tree now : List ℕ) : Type 0 where
   pub stands : Stands b (table_by a kind id buffer table) desk tree
@@ -119,7 +118,7 @@ module _ (b : Start) (byte : b.room < 256) (table : Table) (kind : Kind) (id x :
     r = request_for ts path buffer kind id x
 
     request-by : (a : Answered) → r.answer ≡ a → RequestIs b table kind id buffer a r.desk r.tree r.buffer
-    request-by (answered.Refused q) e =
+    request-by (Err q) e =
         let w = whole-requests.refuses ts.state.desk ts.tree path buffer kind id x q e in
         record {
           stands = record { at = ts; reached = reached; desk_is = w.0; tree_is = w.1; table_is = same };
@@ -127,7 +126,7 @@ module _ (b : Start) (byte : b.room < 256) (table : Table) (kind : Kind) (id x :
           not_forged = λ h.
               ask-low ts.state.desk kind id x buffer q (was-refused ts.state.desk ts.tree path buffer kind id x q e) (same-refusal q Forged h);
         }
-    request-by (answered.Asked p f) e =
+    request-by (Ok (p, f)) e =
         let w : AsTurns b ts path buffer kind id x p f = whole-requests.as_turns b byte ts reached path buffer kind id x p f e in
         record {
           stands =
@@ -138,7 +137,7 @@ module _ (b : Start) (byte : b.room < 256) (table : Table) (kind : Kind) (id x :
                 tree_is = w.tree;
                 table_is = λ u. ap (λ (t : Table). t u) w.table ∙ as_same f kind id buffer ts.state.table table u (same u);
               };
-          plain = subst (λ (held : Option (List ℕ)). Plain (answered.Asked p f) kind held buffer r.buffer) (same id) w.plain;
+          plain = subst (λ (held : Option (List ℕ)). Plain (Ok (p, f)) kind held buffer r.buffer) (same id) w.plain;
           not_forged = λ h. w.never_forged (finish-refused f Forged h);
         }
 

@@ -15,8 +15,6 @@ use Rattle.desk.specs.Readers.{sizes_of}
 use Rattle.items.specs.Real.{real}
 use Rattle.keeping.specs.Table.{Table}
 use Rattle.verdicts.specs.declared.counts.Cell.{Cell}
-use Rattle.verdicts.specs.declared.counts.Found.{Found}
-use Rattle.verdicts.specs.declared.counts.Found.TheVariants as found
 use Rattle.verdicts.specs.declared.counts.Counts.{Counts}
 use Rattle.verdicts.specs.declared.counts.Row.TheVariants.{Refused, Counted}
 use Rattle.verdicts.specs.Cells.{no_counts, plus}
@@ -43,13 +41,13 @@ module _ (b : Start) (byte : b.room < 256) (table : Table) where
       not_forged : r.answer ≢ Refused Forged
 
     run_on : (id : ℕ) (r : ReadResult) (more : Cell → RunResult) → ReadIs b table chapter id r
-        → ((cell : Cell) → cell ≡ table_cell chapter (table id) → RunIs (more cell)) → (f : Found) → r.found ≡ f → RunIs (going_on r more f)
-    run_on id r more w ih (found.Cell cell) e = ih cell (w.cell-is cell e)
-    run_on id r more w ih (found.Refused q) e =
+        → ((cell : Cell) → cell ≡ table_cell chapter (table id) → RunIs (more cell)) → (f : Result Cell Refusal) → r.found ≡ f → RunIs (going_on r more f)
+    run_on id r more w ih (Ok cell) e = ih cell (w.cell-is cell e)
+    run_on id r more w ih (Err q) e =
         record {
           stands = w.stands;
           counted = λ c complete h. absurd (not-counted q c complete h);
-          not_forged = λ h. w.not_forged (let k : q ≡ Forged = cc in e ∙ ap found.Refused k);
+          not_forged = λ h. w.not_forged (let k : q ≡ Forged = cc in e ∙ ap Err k);
         }
 
     run_is : (id : ℕ) (xs : List ℕ) (c : Counts) (desk tree path buffer : List ℕ) (k : ℕ) → Stands b table desk tree → id ≡ first + k

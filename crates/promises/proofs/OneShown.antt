@@ -13,8 +13,7 @@ use Rattle.asks.specs.Ask.{ask_of}
 use Rattle.store.specs.declared.Finished.{Finished}
 use Rattle.store.specs.declared.Finished.TheVariants as finished
 use Rattle.store.specs.Finish.{finish_of}
-use Rattle.requests.specs.declared.Answered.{Answered}
-use Rattle.requests.specs.declared.Answered.TheVariants as answered
+use Rattle.requests.specs.Request.{Answered}
 use Rattle.requests.specs.Request.{RequestResult, finished_by, asked_for, request_of}
 use Rattle.promises.specs.Stores.{ours}
 use Rattle.promises.specs.DemandThree.{Around, finish_then, shown_if, go_on, shows}
@@ -48,11 +47,11 @@ pub record GoesOn (ids draws : List ℕ) (p : ℕ) (desk shown : List ℕ) : Typ
   pub rest_shown : Shown rest desk ids draws
 
 abbrev pub Follows : List ℕ → List ℕ → Answered → List ℕ → List ℕ → Type 0
-Follows ids draws (answered.Refused q) desk shown = shown ≡ []
-Follows ids draws (answered.Asked p (Ok finished.Record)) desk shown = GoesOn ids draws p desk shown
-Follows ids draws (answered.Asked p (Ok finished.Never)) desk shown = GoesOn ids draws p desk shown
-Follows ids draws (answered.Asked p (Ok finished.Done)) desk shown = GoesOn ids draws p desk shown
-Follows ids draws (answered.Asked p (Err q)) desk shown = shown ≡ p ∷ []
+Follows ids draws (Err q) desk shown = shown ≡ []
+Follows ids draws (Ok (p, Ok finished.Record)) desk shown = GoesOn ids draws p desk shown
+Follows ids draws (Ok (p, Ok finished.Never)) desk shown = GoesOn ids draws p desk shown
+Follows ids draws (Ok (p, Ok finished.Done)) desk shown = GoesOn ids draws p desk shown
+Follows ids draws (Ok (p, Err q)) desk shown = shown ≡ p ∷ []
 
 module _ (desk : List ℕ) (id x : ℕ) (ids draws shown : List ℕ) where
   abbrev Here : List ℕ → Type 0
@@ -74,7 +73,7 @@ module _ (desk : List ℕ) (id x : ℕ) (ids draws shown : List ℕ) where
           ),
         )
 
-    by-finish : (a : Result Finished Refusal) → (finish_then (ours real) desk id x e).answer ≡ a → Follows ids draws (answered.Asked p a) left shown → Here shown
+    by-finish : (a : Result Finished Refusal) → (finish_then (ours real) desk id x e).answer ≡ a → Follows ids draws (Ok (p, a)) left shown → Here shown
     by-finish (Ok finished.Record) k g = goes_on (Ok finished.Record) k (λ w. refl) g
     by-finish (Ok finished.Never) k g = goes_on (Ok finished.Never) k (λ w. refl) g
     by-finish (Ok finished.Done) k g = goes_on (Ok finished.Done) k (λ w. refl) g

@@ -26,8 +26,7 @@ use Rattle.asks.proofs.Opened.{opened-changed}
 use Rattle.store.specs.declared.Finished.{Finished}
 use Rattle.store.specs.declared.Finished.TheVariants as finished
 use Rattle.store.specs.Finish.{FinishResult, finish_of, finish_checked, finish_by}
-use Rattle.requests.specs.declared.Answered.TheVariants as answered
-use Rattle.requests.specs.Request.{RequestResult, is_refused, put_unless, returned, finished_by, fetched_for, asked_for}
+use Rattle.requests.specs.Request.{RequestResult, put_unless, returned, finished_by, fetched_for, asked_for}
 use Rattle.promises.specs.Stores.{Store, ours, Start, Request}
 use Rattle.promises.specs.Steps.{State, begin, after_ask, after_finish}
 use Rattle.promises.specs.Trees.{TreeState, Turn, asking, put_if, turn, turns, TreeReached, fetched_by, TreeKept}
@@ -64,7 +63,7 @@ after-desk s st (Ok finished.Never) f = refl
 after-desk s st (Ok finished.Done) f = refl
 after-desk s st (Err q) f = refl
 
-same-put : (a : Result Finished Refusal) (tree new : List ℕ) → put_unless (is_refused a) tree new ≡ put_if a new tree
+same-put : (a : Result Finished Refusal) (tree new : List ℕ) → put_unless (is_err a) tree new ≡ put_if a new tree
 same-put (Ok finished.Record) tree new = refl
 same-put (Ok finished.Never) tree new = refl
 same-put (Ok finished.Done) tree new = refl
@@ -198,19 +197,19 @@ module _ (b : Start) (byte : b.room < 256) (ts : TreeState) (reached : TreeReach
 -- ---- all of it
 
 asked-only : (b : Start) (byte : b.room < 256) (ts : TreeState) → TreeReached (ours real) b ts → (path buffer : List ℕ) (kind : Kind) (id leaf p : ℕ) (g : Result Finished Refusal)
-    → (request_for ts path buffer kind id leaf).answer ≡ answered.Asked p g → AsTurns b ts path buffer kind id leaf p g
+    → (request_for ts path buffer kind id leaf).answer ≡ Ok (p, g) → AsTurns b ts path buffer kind id leaf p g
 asked-only b byte ts r path buffer kind id leaf p g e = go (ask_of ts.state.desk kind id leaf buffer).answer refl
   where
     go : (a : Result ℕ Refusal) → (ask_of ts.state.desk kind id leaf buffer).answer ≡ a → AsTurns b ts path buffer kind id leaf p g
     go (Ok p') h =
-        let w : answered.Asked p' (f b byte ts r path buffer kind id leaf p' h).answer ≡ answered.Asked p g =
+        let w : Ok (p', (f b byte ts r path buffer kind id leaf p' h)).answer ≡ Ok (p, g) =
         sym (ap (λ (x : RequestResult). x.answer) (request-is b byte ts r path buffer kind id leaf p' h)) ∙ e in
         let i : p' ≡ p = cc in
         let j : (f b byte ts r path buffer kind id leaf p' h).answer ≡ g = cc in
         subst (λ (x : ℕ). AsTurns b ts path buffer kind id leaf x g) i
         (subst (λ (x : Result Finished Refusal). AsTurns b ts path buffer kind id leaf p' x) j (as_turns b byte ts r path buffer kind id leaf p' h))
     go (Err q) h =
-        let w : answered.Refused q ≡ answered.Asked p g =
+        let w : Err q ≡ Ok (p, g) =
         sym (ap (λ (a : Result ℕ Refusal). (asked_for a (ask_of ts.state.desk kind id leaf buffer).desk ts.tree path buffer).answer) h) ∙ e in
         let z : ◌≡◌ {A = ℕ} 0 1 = cc in
         absurd (omega arith)

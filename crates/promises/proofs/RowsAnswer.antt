@@ -14,12 +14,9 @@ use Rattle.desk.specs.declared.Kind.TheVariants.{Read}
 use Rattle.desk.specs.Readers.{sizes_of}
 use Rattle.items.specs.Real.{real}
 use Rattle.store.specs.declared.Finished.TheVariants as finished
-use Rattle.requests.specs.declared.Answered.{Answered}
-use Rattle.requests.specs.declared.Answered.TheVariants as answered
+use Rattle.requests.specs.Request.{Answered}
 use Rattle.requests.specs.Request.{request_of}
 use Rattle.verdicts.specs.declared.counts.Cell.{Cell}
-use Rattle.verdicts.specs.declared.counts.Found.{Found}
-use Rattle.verdicts.specs.declared.counts.Found.TheVariants as found
 use Rattle.verdicts.specs.declared.counts.Counts.{Counts}
 use Rattle.verdicts.specs.declared.counts.Row.TheVariants.{Refused}
 use Rattle.verdicts.specs.Cells.{plus, no_counts}
@@ -36,22 +33,22 @@ use Rattle.promises.proofs.ReadyRuns.{Goes, request-ends, begins, range-high}
 
 -- ---- one read is a request
 
-found-done : (chapter : ℕ) (now : List ℕ) (cell : Cell) (a : Answered) → found_by chapter a now ≡ found.Cell cell → outcome_of a ≡ Ok tt
-found-done chapter now cell (answered.Asked leaf (Ok finished.Record)) h = refl
-found-done chapter now cell (answered.Asked leaf (Ok finished.Never)) h = refl
-found-done chapter now cell (answered.Asked leaf (Ok finished.Done)) h = refl
-found-done chapter now cell (answered.Asked leaf (Err q)) h = let z : ◌≡◌ {A = ℕ} 0 1 = cc in absurd (omega arith)
-found-done chapter now cell (answered.Refused q) h = let z : ◌≡◌ {A = ℕ} 0 1 = cc in absurd (omega arith)
+found-done : (chapter : ℕ) (now : List ℕ) (cell : Cell) (a : Answered) → found_by chapter a now ≡ Ok cell → outcome_of a ≡ Ok tt
+found-done chapter now cell (Ok (leaf, Ok finished.Record)) h = refl
+found-done chapter now cell (Ok (leaf, Ok finished.Never)) h = refl
+found-done chapter now cell (Ok (leaf, Ok finished.Done)) h = refl
+found-done chapter now cell (Ok (leaf, Err q)) h = let z : ◌≡◌ {A = ℕ} 0 1 = cc in absurd (omega arith)
+found-done chapter now cell (Err q) h = let z : ◌≡◌ {A = ℕ} 0 1 = cc in absurd (omega arith)
 
-found-outcome : (chapter : ℕ) (now : List ℕ) (q : Refusal) (a : Answered) → found_by chapter a now ≡ found.Refused q → outcome_of a ≡ Err q
-found-outcome chapter now q (answered.Asked leaf f) h = ap finished_outcome (found-refused chapter now q f h)
-found-outcome chapter now q (answered.Refused r) h = let k : r ≡ q = cc in ap Err k
+found-outcome : (chapter : ℕ) (now : List ℕ) (q : Refusal) (a : Answered) → found_by chapter a now ≡ Err q → outcome_of a ≡ Err q
+found-outcome chapter now q (Ok (leaf, f)) h = ap finished_outcome (found-refused chapter now q f h)
+found-outcome chapter now q (Err r) h = let k : r ≡ q = cc in ap Err k
 
 module _ (b : Start) (byte : b.room < 256) where
   -- it goes on, or ends the row in one of the ways
   record ReadEnds (r : ReadResult) : Type 0 where
-    goes : (cell : Cell) → r.found ≡ found.Cell cell → Goes b byte r.desk r.tree r.path × (length r.buffer ≡ record_len)
-    ends : (q : Refusal) → r.found ≡ found.Refused q → Ends b q
+    goes : (cell : Cell) → r.found ≡ Ok cell → Goes b byte r.desk r.tree r.path × (length r.buffer ≡ record_len)
+    ends : (q : Refusal) → r.found ≡ Err q → Ends b q
 
   read-ends : (chapter id x : ℕ) (desk tree path buffer : List ℕ) → Goes b byte desk tree path → length buffer ≡ record_len → 1 ≤ id → id ≤ b.ids
       → x < leaves b.sizes → ReadEnds (read_of chapter desk tree path buffer id x)
@@ -68,9 +65,9 @@ module _ (b : Start) (byte : b.room < 256) where
 
   run_on : (r : ReadResult) (more : Cell → RunResult) (q : Refusal) → ReadEnds r
       → ((cell : Cell) → Goes b byte r.desk r.tree r.path × (length r.buffer ≡ record_len) → (more cell).answer ≡ Refused q → Ends b q)
-      → (f : Found) → r.found ≡ f → (going_on r more f).answer ≡ Refused q → Ends b q
-  run_on r more q w ih (found.Cell cell) e h = ih cell (w.goes cell e) h
-  run_on r more q w ih (found.Refused s) e h = w.ends q (e ∙ ap found.Refused (let k : s ≡ q = cc in k))
+      → (f : Result Cell Refusal) → r.found ≡ f → (going_on r more f).answer ≡ Refused q → Ends b q
+  run_on r more q w ih (Ok cell) e h = ih cell (w.goes cell e) h
+  run_on r more q w ih (Err s) e h = w.ends q (e ∙ ap Err (let k : s ≡ q = cc in k))
 
   run_ends : (chapter n id : ℕ) (xs : List ℕ) (c : Counts) (desk tree path buffer : List ℕ) → Goes b byte desk tree path → length buffer ≡ record_len → 1 ≤ id
       → id + length xs ≤ b.ids + 1 → AllLeaves b xs → (q : Refusal) → (row_from chapter n id xs c desk tree path buffer).answer ≡ Refused q → Ends b q

@@ -11,7 +11,7 @@ use Rattle.words.specs.Bytes.{zeros}
 use Rattle.words.proofs.Splice.{length-zeros}
 use Rattle.sizes.specs.Sizes.{record_len, leaves, tree_len}
 use Rattle.desk.specs.declared.Kind.TheVariants.{Read}
-use Rattle.requests.specs.declared.Answered.{Answered}
+use Rattle.requests.specs.Request.{Answered}
 use Rattle.verdicts.specs.declared.counts.Cell.{Cell}
 use Rattle.verdicts.specs.declared.counts.Cell.TheVariants.{NotRun}
 use Rattle.verdicts.specs.declared.counts.Row.TheVariants.{Counted}

@@ -12,8 +12,7 @@ use Rattle.desk.specs.declared.Kind.TheVariants.{Read}
 use Rattle.desk.specs.Readers.{sizes_of}
 use Rattle.draws.specs.Draws.{from}
 use Rattle.store.specs.declared.Finished.TheVariants as finished
-use Rattle.requests.specs.declared.Answered.{Answered}
-use Rattle.requests.specs.declared.Answered.TheVariants as answered
+use Rattle.requests.specs.Request.{Answered}
 use Rattle.requests.specs.Request.{requested, request_of}
 use Rattle.verdicts.specs.declared.counts.Cell.{Cell}
 use Rattle.verdicts.specs.declared.counts.Cell.TheVariants.{Bad, NotRun}
@@ -50,11 +49,11 @@ module _ (chapter n : ℕ) (us rest : List ℕ) (more : List ℕ → List ℕ) w
     on-cell p cell = record { rest = reads_then (suc id) xs (plus cell c) d t q b; shown_is = refl; rest_shown = ih (plus cell c) d t q b }
 
     read-follows : (a : Answered) → FollowsRead a
-    read-follows (answered.Refused r) = refl
-    read-follows (answered.Asked p (Ok finished.Record)) = on-cell p (record_cell chapter b)
-    read-follows (answered.Asked p (Ok finished.Never)) = on-cell p NotRun
-    read-follows (answered.Asked p (Ok finished.Done)) = on-cell p Bad
-    read-follows (answered.Asked p (Err r)) = refl
+    read-follows (Err r) = refl
+    read-follows (Ok (p, Ok finished.Record)) = on-cell p (record_cell chapter b)
+    read-follows (Ok (p, Ok finished.Never)) = on-cell p NotRun
+    read-follows (Ok (p, Ok finished.Done)) = on-cell p Bad
+    read-follows (Ok (p, Err r)) = refl
 
   module _ (on : (d : List ℕ) → Shown (more d) d us rest) where
     reads-shown : (id : ℕ) (xs : List ℕ) → After id xs
@@ -89,11 +88,11 @@ module _ (desk tree : List ℕ) (chapter first end : ℕ) (us xs : List ℕ) (mo
 all_asked : (chapter : ℕ) (a : Answered) (r : ReadResult) (more : Cell → RunResult) (b rest : List ℕ) (n : ℕ) (c : Counts) (complete : Bool)
     → ((cell : Cell) → (more cell).answer ≡ Counted c complete → length rest ≡ n) → (going_on r more (found_by chapter a b)).answer ≡ Counted c complete
     → length (leaf_asked a rest) ≡ suc n
-all_asked chapter (answered.Refused q) r more b rest n c complete f h = absurd (not-counted q c complete h)
-all_asked chapter (answered.Asked p (Ok finished.Record)) r more b rest n c complete f h = ap suc (f (record_cell chapter b) h)
-all_asked chapter (answered.Asked p (Ok finished.Never)) r more b rest n c complete f h = ap suc (f NotRun h)
-all_asked chapter (answered.Asked p (Ok finished.Done)) r more b rest n c complete f h = ap suc (f Bad h)
-all_asked chapter (answered.Asked p (Err q)) r more b rest n c complete f h = absurd (not-counted q c complete h)
+all_asked chapter (Err q) r more b rest n c complete f h = absurd (not-counted q c complete h)
+all_asked chapter (Ok (p, Ok finished.Record)) r more b rest n c complete f h = ap suc (f (record_cell chapter b) h)
+all_asked chapter (Ok (p, Ok finished.Never)) r more b rest n c complete f h = ap suc (f NotRun h)
+all_asked chapter (Ok (p, Ok finished.Done)) r more b rest n c complete f h = ap suc (f Bad h)
+all_asked chapter (Ok (p, Err q)) r more b rest n c complete f h = absurd (not-counted q c complete h)
 
 reads_all : (chapter n id : ℕ) (xs : List ℕ) (c : Counts) (desk tree path buffer : List ℕ) (c' : Counts) (complete : Bool)
     → (row_from chapter n id xs c desk tree path buffer).answer ≡ Counted c' complete → length (reads_show id xs desk tree path buffer) ≡ length xs

@@ -1,4 +1,6 @@
 -- The plain table's rows: a cell is passed exactly if a pass record of the chapter is held, and as many are counted as have passed. Assumes nothing.
+use Rattle.std.specs.Prelude.{None, Some}
+use Rattle.verdicts.specs.declared.Entry.{Entry}
 use Prim.Native.Nat.{ℕ, zero, suc, ◌+◌, ◌<◌, ◌≤◌}
 use mathlib.Core.Path.{◌≡◌, refl, sym, ap, ap₂, ◌∙◌}
 use mathlib.Core.Bool.{Bool, cond}
@@ -11,8 +13,6 @@ use Rattle.words.proofs.Tests.{by_cases, below_or}
 use Rattle.keeping.specs.Table.{Table}
 use Rattle.verdicts.specs.declared.Verdict.{Verdict}
 use Rattle.verdicts.specs.declared.Verdict.TheVariants as verdict
-use Rattle.verdicts.specs.declared.Reading.{Reading}
-use Rattle.verdicts.specs.declared.Reading.TheVariants as reading
 use Rattle.verdicts.specs.declared.counts.Cell.{Cell}
 use Rattle.verdicts.specs.declared.counts.Cell.TheVariants.{Passed, Failed, Skipped, Errors, Bad, NotRun}
 use Rattle.verdicts.specs.declared.counts.Counts.{Counts}
@@ -31,8 +31,8 @@ pass-verdict verdict.Fail h = let z : ◌≡◌ {A = ℕ} 0 1 = cc in absurd (om
 pass-verdict verdict.Skipped h = let z : ◌≡◌ {A = ℕ} 0 1 = cc in absurd (omega arith)
 pass-verdict verdict.Error h = let z : ◌≡◌ {A = ℕ} 0 1 = cc in absurd (omega arith)
 
-pass-reading : (chapter : ℕ) (rec : List ℕ) (r : Reading) → reading_of rec ≡ r → reading_cell chapter r ≡ Passed → PassHeld chapter (some rec)
-pass-reading chapter rec (reading.Good e) k h =
+pass-reading : (chapter : ℕ) (rec : List ℕ) (r : Option Entry) → reading_of rec ≡ r → reading_cell chapter r ≡ Passed → PassHeld chapter (some rec)
+pass-reading chapter rec (Some e) k h =
     by_cases (eqb e.chapter chapter)
     (λ t.
     record {
@@ -44,7 +44,7 @@ pass-reading chapter rec (reading.Good e) k h =
       of_chapter = eqb-true e.chapter chapter t;
     })
     (λ t. absurd (not-bad (sym (ap (λ (x : Bool). cond x (verdict_cell e.verdict) Bad) t) ∙ h)))
-pass-reading chapter rec reading.Bad k h = absurd (not-bad h)
+pass-reading chapter rec None k h = absurd (not-bad h)
 
 pub pass-held : (chapter : ℕ) (held : Option (List ℕ)) → table_cell chapter held ≡ Passed → PassHeld chapter held
 unfolding record_cell

@@ -20,7 +20,6 @@ use Rattle.sheets.specs.Sheet.{entry_start, entry_at, empty_sheet}
 use Rattle.returning.proofs.Sheets.{fill-long}
 use Rattle.taking.specs.declared.Text.{Text}
 use Rattle.tap.specs.declared.Taken.TheVariants as taken
-use Rattle.tap.specs.declared.Printed.TheVariants as printed
 use Rattle.passing.specs.Passing.{EntryResult, kind_of, request_entry, PassResult, going_on, pass_from, pass_of}
 use Rattle.tap.specs.Tap.{ReadResult, read_text, write_by}
 use Rattle.promises.specs.Stores.{ours, Start}
@@ -100,7 +99,7 @@ module _ (b : Start) (byte : b.room < 256) (ts : TreeState) (reached : TreeReach
       (taken-same (pass_of desk tree first draws sheet).answer q (sym (ap (λ (r : ReadResult). r.answer) e) ∙ h))
 
   pub write-ends : (chapter first end : ℕ) (draws out : List ℕ) → MayWrite b ts first end draws out → (q : Refusal)
-      → (tap_write ts chapter first end draws out).answer ≡ printed.Refused q → Ends b q
+      → (tap_write ts chapter first end draws out).answer ≡ Err q → Ends b q
   write-ends chapter first end draws out o q h =
       let n = end - first in
       let r = pass_of desk tree first draws (empty_sheet n) in

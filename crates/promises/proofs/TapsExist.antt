@@ -24,7 +24,6 @@ use Rattle.taking.specs.Taking.{take_of}
 use Rattle.printing.specs.Printed.{room_of}
 use Rattle.printing.specs.Printing.{head_text, entry_text, entries_text, text_of}
 use Rattle.tap.specs.declared.Taken.TheVariants as taken
-use Rattle.tap.specs.declared.Printed.TheVariants as printed
 use Rattle.passing.specs.Passing.{kind_of, finished_outcome, outcome_of, request_entry, passed, going_on, pass_from, SheetResult, pass_of}
 use Rattle.tap.specs.Tap.{ReadResult, taken_by, read_text, read_of, printed_by, write_by, write_of}
 use Rattle.promises.specs.Stores.{Start, format_for}
@@ -91,7 +90,7 @@ module _ (b : Start) (lent : List ℕ) (p : Proper b lent) (room : 1 ≤ b.room)
     abbrev through : SheetResult
     through = pass_of desk tree id (draw ∷ []) (empty_sheet n)
 
-    is-written : (write_of desk tree chapter id (id + 1) (draw ∷ []) out).answer ≡ printed.Length (length (text_of chapter n through.sheet))
+    is-written : (write_of desk tree chapter id (id + 1) (draw ∷ []) out).answer ≡ Ok (length (text_of chapter n through.sheet))
     is-written =
         ap (λ (o : Result Unit Refusal). (write_by o desk tree chapter id (id + 1) (draw ∷ []) out).answer)
         (write_checked_lem desk tree id (id + 1) (draw ∷ []) out (checked b lent p tree size id draw low high) (long ∙ ap room_of (sym (one-id id))))
@@ -101,12 +100,12 @@ module _ (b : Start) (lent : List ℕ) (p : Proper b lent) (room : 1 ≤ b.room)
     says_none : text_of chapter n (table_sheet no_table id n) ≡ head_text 1
     says_none = ap (λ (k : ℕ). text_of chapter k (table_sheet no_table id k)) (one-id id) ∙ none_said chapter id
 
-    pub first_written : ((write_of desk tree chapter id (id + 1) (draw ∷ []) out).answer ≡ printed.Length (length (head_text 1)))
+    pub first_written : ((write_of desk tree chapter id (id + 1) (draw ∷ []) out).answer ≡ Ok (length (head_text 1)))
         × ((write_of desk tree chapter id (id + 1) (draw ∷ []) out).out ≡ splice out 0 (head_text 1))
     first_written =
         let w =
         says-table b p.room_byte (fresh.ts b lent p tree size) (fresh.reached b lent p tree size) chapter id (id + 1) (draw ∷ []) out
         (length (text_of chapter n through.sheet)) is-written in (
-          is-written ∙ ap printed.Length (w.0 ∙ ap length says_none),
+          is-written ∙ ap Ok (w.0 ∙ ap length says_none),
           w.1 ∙ ap (splice out 0) says_none,
         )

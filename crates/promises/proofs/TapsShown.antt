@@ -13,8 +13,7 @@ use Rattle.sizes.proofs.Rows.{not-refused}
 use Rattle.desk.specs.Readers.{sizes_of}
 use Rattle.draws.specs.Draws.{from}
 use Rattle.store.specs.declared.Finished.TheVariants as finished
-use Rattle.requests.specs.declared.Answered.{Answered}
-use Rattle.requests.specs.declared.Answered.TheVariants as answered
+use Rattle.requests.specs.Request.{Answered}
 use Rattle.requests.specs.Request.{request_of}
 use Rattle.book.specs.MatrixRow.{row_checked}
 use Rattle.book.proofs.Passed.{row-passed}
@@ -23,7 +22,6 @@ use Rattle.taking.specs.declared.Text.{Text}
 use Rattle.taking.specs.declared.Text.TheVariants as took
 use Rattle.taking.specs.Taking.{take_of}
 use Rattle.tap.specs.declared.Taken.TheVariants as taken
-use Rattle.tap.specs.declared.Printed.TheVariants as printed
 use Rattle.passing.specs.Passing.{kind_of, outcome_of, request_entry, PassResult, passed, going_on, pass_from, SheetResult, pass_of}
 use Rattle.tap.specs.Tap.{taken_by, read_text, read_by, read_of, write_checked, printed_by, write_by, write_of}
 use Rattle.promises.specs.Deeds.{leaf_asked, pass_shows, sheet_shows, text_shows, tap_in_shows_by, tap_in_shows, tap_out_shows_by, tap_out_shows, go_on_taken, go_on_printed}
@@ -63,11 +61,11 @@ module _ (first : ℕ) (us rest : List ℕ) (more : List ℕ → List ℕ) where
         }
 
     entry_follows : (a : Answered) → FollowsEntry a
-    entry_follows (answered.Refused r) = refl
-    entry_follows (answered.Asked p (Ok finished.Record)) = on-entry p
-    entry_follows (answered.Asked p (Ok finished.Never)) = on-entry p
-    entry_follows (answered.Asked p (Ok finished.Done)) = on-entry p
-    entry_follows (answered.Asked p (Err r)) = refl
+    entry_follows (Err r) = refl
+    entry_follows (Ok (p, Ok finished.Record)) = on-entry p
+    entry_follows (Ok (p, Ok finished.Never)) = on-entry p
+    entry_follows (Ok (p, Ok finished.Done)) = on-entry p
+    entry_follows (Ok (p, Err r)) = refl
 
   module _ (on : (d : List ℕ) → Shown (more d) d us rest) where
     pass-shown : (i : ℕ) (xs : List ℕ) → After i xs
@@ -147,11 +145,11 @@ module _ (desk tree : List ℕ) (first end : ℕ) (us xs : List ℕ) (more : Lis
 
 all_asked : (a : Answered) (d t q s : List ℕ) (more : PassResult) (rest : List ℕ) (n : ℕ) → (more.answer ≡ Ok tt → length rest ≡ n)
     → (going_on (passed (outcome_of a) d t q s) more (outcome_of a)).answer ≡ Ok tt → length (leaf_asked a rest) ≡ suc n
-all_asked (answered.Refused r) d t q s more rest n f h = absurd (not-refused r h)
-all_asked (answered.Asked p (Ok finished.Record)) d t q s more rest n f h = ap suc (f h)
-all_asked (answered.Asked p (Ok finished.Never)) d t q s more rest n f h = ap suc (f h)
-all_asked (answered.Asked p (Ok finished.Done)) d t q s more rest n f h = ap suc (f h)
-all_asked (answered.Asked p (Err r)) d t q s more rest n f h = absurd (not-refused r h)
+all_asked (Err r) d t q s more rest n f h = absurd (not-refused r h)
+all_asked (Ok (p, Ok finished.Record)) d t q s more rest n f h = ap suc (f h)
+all_asked (Ok (p, Ok finished.Never)) d t q s more rest n f h = ap suc (f h)
+all_asked (Ok (p, Ok finished.Done)) d t q s more rest n f h = ap suc (f h)
+all_asked (Ok (p, Err r)) d t q s more rest n f h = absurd (not-refused r h)
 
 pass_all : (first i : ℕ) (xs desk tree path sheet : List ℕ) → (pass_from first i xs desk tree path sheet).answer ≡ Ok tt
     → length (pass_shows first i xs desk tree path sheet) ≡ length xs
@@ -175,7 +173,7 @@ read_asked desk tree chapter year first end draws text h =
     ∙ (row-passed w.checked).draws_length
 
 pub write-asked : (desk tree : List ℕ) (chapter first end : ℕ) (draws out : List ℕ) (len : ℕ)
-    → (write_of desk tree chapter first end draws out).answer ≡ printed.Length len → length (tap_out_shows desk tree first end draws out) ≡ end - first
+    → (write_of desk tree chapter first end draws out).answer ≡ Ok len → length (tap_out_shows desk tree first end draws out) ≡ end - first
 write-asked desk tree chapter first end draws out len h =
     let w = was-written desk tree chapter first end draws out len h in
     ap (λ (o : Result Unit Refusal). length (tap_out_shows_by o desk tree first end draws)) w.checked

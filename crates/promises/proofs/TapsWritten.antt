@@ -19,7 +19,6 @@ use Rattle.keeping.specs.Table.{Table, plain_buffer}
 use Rattle.book.proofs.Passed.{row-passed}
 use Rattle.sheets.specs.Sheet.{empty_sheet}
 use Rattle.printing.specs.Printing.{text_of}
-use Rattle.tap.specs.declared.Printed.TheVariants as printed
 use Rattle.passing.specs.Passing.{kind_of, pass_from, SheetResult, pass_of}
 use Rattle.tap.specs.Tap.{WriteResult, write_rows, write_checked, printed_by, write_by}
 use Rattle.promises.specs.Stores.{ours, Start}
@@ -66,7 +65,7 @@ module _ (b : Start) (byte : b.room < 256) (ts : TreeState) (reached : TreeReach
     -- what it leaves, whatever it answers
     pub record Written (r : WriteResult) : Type 0 where
       stands : Stands b table r.desk r.tree
-      pub not_forged : r.answer ≢ printed.Refused Forged
+      pub not_forged : r.answer ≢ Err Forged
 
     by-pass : (o : Result Unit Refusal) → Stands b table through.desk through.tree → o ≢ Err Forged → Written (printed_by o chapter m through out)
     by-pass (Ok tt) s f = record { stands = s; not_forged = λ h. let z : ◌≡◌ {A = ℕ} 0 1 = cc in omega arith }
@@ -98,7 +97,7 @@ module _ (b : Start) (byte : b.room < 256) (ts : TreeState) (reached : TreeReach
         (λ j l.
         s.before j l ∙ ap (λ (entry : List ℕ). plain_buffer (kind_of entry) (table (first + j)) entry) (empty-entry m j l) ∙ read_held (table (first + j)))
 
-    module _ (len : ℕ) (h : (tap_write ts chapter first end draws out).answer ≡ printed.Length len) where
+    module _ (len : ℕ) (h : (tap_write ts chapter first end draws out).answer ≡ Ok len) where
       pub says-table : (len ≡ length (text_of chapter m (table_sheet table first m)))
           × ((tap_write ts chapter first end draws out).out ≡ splice out 0 (text_of chapter m (table_sheet table first m)))
       says-table =

@@ -1,18 +1,16 @@
 -- A text that is written from one store and read into another, both over an honest server: what the second then holds, by what the first holds. Assumes
 -- nothing.
-use Rattle.std.specs.Prelude.{ℕ, ◌+◌, ◌-◌, ◌<◌, ◌≤◌, ◌≡◌, ◌≢◌, ◌⊎◌, false, List, length, take, Ok}
+use Rattle.std.specs.Prelude.{ℕ, ◌+◌, ◌-◌, ◌<◌, ◌≤◌, ◌≡◌, ◌≢◌, ◌⊎◌, false, List, length, take, Ok, Some}
 use Rattle.std.proofs.Math.Option.{Option, none, some}
 use Rattle.sizes.specs.Sizes.{tree_len}
 use Rattle.slots.specs.Slots.{Bytes}
 use Rattle.items.specs.Real.{real}
 use Rattle.keeping.specs.Table.{Table}
 use Rattle.verdicts.specs.declared.Entry.{Entry}
-use Rattle.verdicts.specs.declared.Reading.TheVariants.{Good}
 use Rattle.verdicts.specs.Verdict.{reading_of, name_in, record_of}
 use Rattle.taking.specs.declared.Trouble.{Trouble}
 use Rattle.returning.specs.Returning.{is_said, Plain}
 use Rattle.tap.specs.declared.Taken.TheVariants as taken
-use Rattle.tap.specs.declared.Printed.TheVariants as printed
 use Rattle.tap.specs.Tap.{read_of}
 use Rattle.promises.specs.Stores.{ours, Start, format_for}
 use Rattle.promises.specs.Trees.{TreeState, TreeReached}
@@ -27,10 +25,10 @@ pub record Comes (chapter year : ℕ) (held before after : Option (List ℕ)) : 
   -- so is one whose record gets no line
   pub unsaid : (rec : List ℕ) → held ≡ some rec → is_said chapter rec ≡ false → after ≡ before
   -- a verdict of the chapter whose name is plain comes, with the year that is read for
-  pub comes : (rec : List ℕ) (e : Entry) → held ≡ some rec → reading_of rec ≡ Good e → e.chapter ≡ chapter → Plain (name_in rec e)
+  pub comes : (rec : List ℕ) (e : Entry) → held ≡ some rec → reading_of rec ≡ Some e → e.chapter ≡ chapter → Plain (name_in rec e)
       → after ≡ some (record_of e.verdict chapter year (name_in rec e))
   -- of the same year, every byte does
-  pub same_bytes : (rec : List ℕ) (e : Entry) → held ≡ some rec → Bytes rec → reading_of rec ≡ Good e → e.chapter ≡ chapter → e.year ≡ year → Plain (name_in rec e)
+  pub same_bytes : (rec : List ℕ) (e : Entry) → held ≡ some rec → Bytes rec → reading_of rec ≡ Some e → e.chapter ≡ chapter → e.year ≡ year → Plain (name_in rec e)
       → after ≡ some rec
   -- a pass there was a pass in the first, or it stood in the second before
   pub only_passes : PassHeld chapter after → PassHeld chapter held ⊎ (after ≡ before)
@@ -56,7 +54,7 @@ pub record Out (b : Start) (ts : TreeState) (chapter first end : ℕ) : Type 0 w
   pub draws : List ℕ
   pub out : List ℕ
   pub len : ℕ
-  pub written : (tap_write ts chapter first end draws out).answer ≡ printed.Length len
+  pub written : (tap_write ts chapter first end draws out).answer ≡ Ok len
 
 abbrev pub text_in : {b : Start} {ts : TreeState} {chapter first end : ℕ} → Out b ts chapter first end → List ℕ
 text_in {ts = ts} {chapter = chapter} {first = first} {end = end} o = take o.len (tap_write ts chapter first end o.draws o.out).out

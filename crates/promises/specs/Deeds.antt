@@ -8,8 +8,7 @@ use Rattle.desk.specs.declared.Kind.TheVariants.{Read}
 use Rattle.desk.specs.Readers.{sizes_of}
 use Rattle.items.specs.Real.{real}
 use Rattle.draws.specs.Draws.{AllGood, leaves_shown, from, indices, rearrange, rearranged}
-use Rattle.requests.specs.declared.Answered.{Answered}
-use Rattle.requests.specs.declared.Answered.TheVariants as answered
+use Rattle.requests.specs.Request.{Answered}
 use Rattle.requests.specs.Request.{request_of}
 use Rattle.verdicts.specs.declared.counts.Counts.{Counts}
 use Rattle.verdicts.specs.declared.counts.Row.{Row}
@@ -21,8 +20,6 @@ use Rattle.taking.specs.declared.Text.TheVariants as took
 use Rattle.taking.specs.Taking.{TextResult, take_of}
 use Rattle.tap.specs.declared.Taken.{Taken}
 use Rattle.tap.specs.declared.Taken.TheVariants as taken
-use Rattle.tap.specs.declared.Printed.{Printed}
-use Rattle.tap.specs.declared.Printed.TheVariants as printed
 use Rattle.passing.specs.Passing.{kind_of}
 use Rattle.tap.specs.Tap.{read_of, write_checked, write_of}
 use Rattle.promises.specs.Stores.{ours, format_for}
@@ -30,8 +27,8 @@ use Rattle.promises.specs.DemandThree.{Around, shown_if, go_on, finish_then, Run
 
 -- the leaves that the reads of a row ask for, from `id` on: a refusal ends them
 abbrev pub leaf_asked : Answered → List ℕ → List ℕ
-leaf_asked (answered.Refused q) more = []
-leaf_asked (answered.Asked leaf f) more = leaf ∷ go_on f more
+leaf_asked (Err q) more = []
+leaf_asked (Ok (leaf, f)) more = leaf ∷ go_on f more
 
 unfoldable pub reads_show : ℕ → List ℕ → List ℕ → List ℕ → List ℕ → List ℕ → List ℕ
 reads_show id [] desk tree path buffer = []
@@ -108,9 +105,9 @@ go_on_taken taken.Done more = more
 go_on_taken (taken.Bad trouble line) more = []
 go_on_taken (taken.Refused q) more = []
 
-abbrev pub go_on_printed : Printed → List ℕ → List ℕ
-go_on_printed (printed.Length len) more = more
-go_on_printed (printed.Refused q) more = []
+abbrev pub go_on_printed : Result ℕ Refusal → List ℕ → List ℕ
+go_on_printed (Ok len) more = more
+go_on_printed (Err q) more = []
 
 -- the leaves that a run shows: from a desk, for deeds, with draws for them: a request takes one, a row and a text one for each id of its range
 unfoldable pub deeds_show : List ℕ → List Deed → List ℕ → List ℕ
@@ -154,4 +151,4 @@ pub record ThreeWithDeeds : Type 0 where
   pub read_asks_for_each : (desk tree : List ℕ) (chapter year first end : ℕ) (draws text : List ℕ)
       → (read_of desk tree chapter year first end draws text).answer ≡ taken.Done → length (tap_in_shows desk tree chapter year first end draws text) ≡ end - first
   pub write_asks_for_each : (desk tree : List ℕ) (chapter first end : ℕ) (draws out : List ℕ) (len : ℕ)
-      → (write_of desk tree chapter first end draws out).answer ≡ printed.Length len → length (tap_out_shows desk tree first end draws out) ≡ end - first
+      → (write_of desk tree chapter first end draws out).answer ≡ Ok len → length (tap_out_shows desk tree first end draws out) ≡ end - first

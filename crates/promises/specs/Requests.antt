@@ -7,7 +7,6 @@ use Rattle.desk.specs.declared.Kind.{Kind}
 use Rattle.items.specs.Real.{real}
 use Rattle.store.specs.declared.Finished.{Finished}
 use Rattle.store.specs.declared.Finished.TheVariants as finished
-use Rattle.requests.specs.declared.Answered.TheVariants as answered
 use Rattle.requests.specs.Request.{RequestResult, request_of}
 use Rattle.keeping.specs.Table.{Table, plain_answer, plain_buffer, plain_table}
 use Rattle.promises.specs.Stores.{ours, Start, Request, Accepted}
@@ -51,8 +50,8 @@ pub record AsTurns (b : Start) (ts : TreeState) (path buffer : List ℕ) (kind :
 pub record WholeRequests : Type 0 where
   -- a refusal before anything was asked for changes nothing
   pub refuses : (desk tree path buffer : List ℕ) (kind : Kind) (id leaf : ℕ) (q : Refusal)
-      → (request_of desk tree path buffer kind id leaf).answer ≡ answered.Refused q
+      → (request_of desk tree path buffer kind id leaf).answer ≡ Err q
       → ((request_of desk tree path buffer kind id leaf).desk ≡ desk) × ((request_of desk tree path buffer kind id leaf).tree ≡ tree)
       × ((request_of desk tree path buffer kind id leaf).path ≡ path) × ((request_of desk tree path buffer kind id leaf).buffer ≡ buffer)
   pub as_turns : (b : Start) → b.room < 256 → (ts : TreeState) → TreeReached (ours real) b ts → (path buffer : List ℕ) (kind : Kind) (id leaf p : ℕ) (f : Result Finished Refusal)
-      → (request_for ts path buffer kind id leaf).answer ≡ answered.Asked p f → AsTurns b ts path buffer kind id leaf p f
+      → (request_for ts path buffer kind id leaf).answer ≡ Ok (p, f) → AsTurns b ts path buffer kind id leaf p f

@@ -1,5 +1,5 @@
 -- Rows of the verdict book. Over an honest server a row is the plain table's own row; on every input its six counts add up. Assumes nothing.
-use Rattle.std.specs.Prelude.{ℕ, zero, suc, ◌+◌, ◌-◌, ◌<◌, ◌≤◌, ◌≡◌, ◌≢◌, ◌↔◌, ◌⊎◌, Bool, true, false, List, [], ◌∷◌, length, get_or, Err, Ok}
+use Rattle.std.specs.Prelude.{ℕ, zero, suc, ◌+◌, ◌-◌, ◌<◌, ◌≤◌, ◌≡◌, ◌≢◌, ◌↔◌, ◌⊎◌, Bool, true, false, List, [], ◌∷◌, length, get_or, Err, Ok, Some}
 use Rattle.std.proofs.Math.Option.{Option, none, some}
 use Rattle.sizes.specs.declared.Refusal.{Refusal}
 use Rattle.sizes.specs.declared.Refusal.TheVariants.{Forged, Worn, Full}
@@ -9,12 +9,10 @@ use Rattle.desk.specs.Readers.{status_of}
 use Rattle.desk.specs.Status.{ready_status}
 use Rattle.items.specs.Real.{real}
 use Rattle.store.specs.declared.Finished.TheVariants as finished
-use Rattle.requests.specs.declared.Answered.TheVariants as answered
 use Rattle.requests.specs.Request.{request_of}
 use Rattle.keeping.specs.Table.{Table}
 use Rattle.verdicts.specs.declared.Verdict.TheVariants.{Pass}
 use Rattle.verdicts.specs.declared.Entry.{Entry}
-use Rattle.verdicts.specs.declared.Reading.TheVariants.{Good}
 use Rattle.verdicts.specs.declared.counts.Cell.{Cell}
 use Rattle.verdicts.specs.declared.counts.Cell.TheVariants.{NotRun}
 use Rattle.verdicts.specs.declared.counts.Counts.{Counts}
@@ -43,7 +41,7 @@ pub record PassHeld (chapter : ℕ) (held : Option (List ℕ)) : Type 0 where
   pub bytes : List ℕ
   pub says : Entry
   pub held_is : held ≡ some bytes
-  pub reads : reading_of bytes ≡ Good says
+  pub reads : reading_of bytes ≡ Some says
   pub passes : says.verdict ≡ Pass
   pub of_chapter : says.chapter ≡ chapter
 
@@ -105,4 +103,4 @@ pub record AnyRow : Type 0 where
       → ((row_of desk tree chapter first end draws).answer ≡ Refused q) × ((row_of desk tree chapter first end draws).desk ≡ desk)
       × ((row_of desk tree chapter first end draws).tree ≡ tree)
   -- a read is never answered by Done: so the column that `found_of` gives to Done stands for no read
-  pub never_done : (desk tree path buffer : List ℕ) (id draw p : ℕ) → (request_of desk tree path buffer Read id draw).answer ≢ answered.Asked p (Ok finished.Done)
+  pub never_done : (desk tree path buffer : List ℕ) (id draw p : ℕ) → (request_of desk tree path buffer Read id draw).answer ≢ Ok (p, Ok finished.Done)

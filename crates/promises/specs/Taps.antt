@@ -18,7 +18,6 @@ use Rattle.taking.specs.Taking.{take_of}
 use Rattle.printing.specs.Printed.{room_of}
 use Rattle.printing.specs.Printing.{head_text, text_of}
 use Rattle.tap.specs.declared.Taken.TheVariants as taken
-use Rattle.tap.specs.declared.Printed.TheVariants as printed
 use Rattle.tap.specs.Tap.{ReadResult, read_of, WriteResult, write_checked, write_of}
 use Rattle.promises.specs.Stores.{ours, Start, format_for}
 use Rattle.promises.specs.Trees.{TreeState, TreeReached}
@@ -104,18 +103,18 @@ pub record HonestTaps : Type 0 where
       → MayRead b ts chapter year first end draws text → (q : Refusal) → (tap_read ts chapter year first end draws text).answer ≡ taken.Refused q → q ≡ Worn
   -- a text that is written is the one that says the table, and the table stays, whatever the answer
   pub writes : (b : Start) → b.room < 256 → (ts : TreeState) → TreeReached (ours real) b ts → (chapter first end : ℕ) (draws out : List ℕ) (len : ℕ)
-      → (tap_write ts chapter first end draws out).answer ≡ printed.Length len
+      → (tap_write ts chapter first end draws out).answer ≡ Ok len
       → (len ≡ length (text_of chapter (end - first) (table_sheet ts.state.table first (end - first))))
       × ((tap_write ts chapter first end draws out).out ≡ splice out 0 (text_of chapter (end - first) (table_sheet ts.state.table first (end - first))))
   pub write_leaves : (b : Start) → b.room < 256 → (ts : TreeState) → TreeReached (ours real) b ts → (chapter first end : ℕ) (draws out : List ℕ)
       → Leaves b (tap_write ts chapter first end draws out).desk (tap_write ts chapter first end draws out).tree (λ id held. held ≡ ts.state.table id)
   pub write_not_forged : (b : Start) → b.room < 256 → (ts : TreeState) → TreeReached (ours real) b ts → (chapter first end : ℕ) (draws out : List ℕ)
-      → (tap_write ts chapter first end draws out).answer ≢ printed.Refused Forged
+      → (tap_write ts chapter first end draws out).answer ≢ Err Forged
   -- a text that may be written is written, or it ends in the same ways
   pub write_answers : (b : Start) → b.room < 256 → (ts : TreeState) → TreeReached (ours real) b ts → (chapter first end : ℕ) (draws out : List ℕ)
-      → MayWrite b ts first end draws out → (q : Refusal) → (tap_write ts chapter first end draws out).answer ≡ printed.Refused q → (q ≡ Worn) ⊎ (q ≡ Full)
+      → MayWrite b ts first end draws out → (q : Refusal) → (tap_write ts chapter first end draws out).answer ≡ Err q → (q ≡ Worn) ⊎ (q ≡ Full)
   pub write_roomy : (b : Start) → b.room < 256 → b.ids ≤ b.room → (ts : TreeState) → TreeReached (ours real) b ts → (chapter first end : ℕ) (draws out : List ℕ)
-      → MayWrite b ts first end draws out → (q : Refusal) → (tap_write ts chapter first end draws out).answer ≡ printed.Refused q → q ≡ Worn
+      → MayWrite b ts first end draws out → (q : Refusal) → (tap_write ts chapter first end draws out).answer ≡ Err q → q ≡ Worn
   -- there are texts that are read: on a fresh store, over a tree with any bytes, a good text for one id is, and every text that says a sheet is good
   pub first_text : (b : Start) (lent : List ℕ) → Proper b lent → 1 ≤ b.room → (tree : List ℕ) → length tree ≡ tree_len b.sizes
       → (chapter year id draw : ℕ) → 1 ≤ id → id ≤ b.ids → AllLeaves b (draw ∷ []) → (text : List ℕ) → (take_of chapter year 1 text).answer ≡ took.Good
@@ -124,7 +123,7 @@ pub record HonestTaps : Type 0 where
   -- and there are texts that are written: of one id of a fresh store, version and plan alone
   pub first_written : (b : Start) (lent : List ℕ) → Proper b lent → 1 ≤ b.room → (tree : List ℕ) → length tree ≡ tree_len b.sizes
       → (chapter id draw : ℕ) → 1 ≤ id → id ≤ b.ids → AllLeaves b (draw ∷ []) → (out : List ℕ) → length out ≡ room_of 1
-      → ((write_of (format_for b lent).desk tree chapter id (id + 1) (draw ∷ []) out).answer ≡ printed.Length (length (head_text 1)))
+      → ((write_of (format_for b lent).desk tree chapter id (id + 1) (draw ∷ []) out).answer ≡ Ok (length (head_text 1)))
       × ((write_of (format_for b lent).desk tree chapter id (id + 1) (draw ∷ []) out).out ≡ splice out 0 (head_text 1))
 
 -- ---- on every input, whatever desk and tree are
@@ -135,7 +134,7 @@ pub record AnyTap : Type 0 where
       → ((read_of desk tree chapter year first end draws text).answer ≡ taken.Refused q) × ((read_of desk tree chapter year first end draws text).desk ≡ desk)
       × ((read_of desk tree chapter year first end draws text).tree ≡ tree)
   pub write_refuses : (desk tree : List ℕ) (chapter first end : ℕ) (draws out : List ℕ) (q : Refusal) → write_checked desk tree first end draws out ≡ Err q
-      → ((write_of desk tree chapter first end draws out).answer ≡ printed.Refused q) × ((write_of desk tree chapter first end draws out).desk ≡ desk)
+      → ((write_of desk tree chapter first end draws out).answer ≡ Err q) × ((write_of desk tree chapter first end draws out).desk ≡ desk)
       × ((write_of desk tree chapter first end draws out).tree ≡ tree)
   -- a text that is refused leaves the store as it was: no ask has come
   pub bad_text : (desk tree : List ℕ) (chapter year first end : ℕ) (draws text : List ℕ) (t : Trouble) (line : ℕ)
@@ -144,4 +143,4 @@ pub record AnyTap : Type 0 where
       × ((read_of desk tree chapter year first end draws text).tree ≡ tree)
   -- a refusal hands out no text: the buffer is as it was
   pub no_text : (desk tree : List ℕ) (chapter first end : ℕ) (draws out : List ℕ) (q : Refusal)
-      → (write_of desk tree chapter first end draws out).answer ≡ printed.Refused q → (write_of desk tree chapter first end draws out).out ≡ out
+      → (write_of desk tree chapter first end draws out).answer ≡ Err q → (write_of desk tree chapter first end draws out).out ≡ out

@@ -7,30 +7,14 @@ ghost use Rattle.desk.specs.Layout.{b_at};
 ghost use Rattle.desk.specs.Readers.{sizes_of};
 ghost use Rattle.items.specs.Real.{real};
 ghost use Rattle.store.specs.Finish.{finish_of};
-ghost use Rattle.requests.specs.Request.{is_refused, requested, returned, fetched_for, request_of};
+ghost use Rattle.requests.specs.Request.{requested, returned, fetched_for, request_of};
 
-use asks::Asked;
 use desk::Kind;
-use sizes::{Outcome, Refusal};
+use sizes::Refusal;
 use store::Finished;
 
 // What a whole request answers: a refusal before anything was asked, or the leaf asked for and what came of it.
-#[derive(Clone, Copy, Drop)]
-pub enum Answered {
-    Refused(Refusal),
-    Asked { leaf: u16, finished: Finished },
-}
-
-fn is_refused(f: Finished) -> bool
-    ensures { result ≡ is_refused f }
-{
-    match f {
-        Finished::Record => false,
-        Finished::Never => false,
-        Finished::Done => false,
-        Finished::Refused(_) => true,
-    }
-}
+pub type Answered = Result<(u16, Result<Finished, Refusal>), Refusal>;
 
 // Finish, and put where it was accepted: a refused finish has written no path.
 fn finish_put(
@@ -45,10 +29,10 @@ fn finish_put(
     ensures { requested result desk.new tree.new path.new «record».new ≡ returned (sized height slots) leaf tree.old (finish_of real desk.old path.old «record».old) }
 {
     let finished = store::finish(desk, path, record);
-    if !is_refused(finished) {
-        tree::put(tree, height, slots, leaf, path);
+    if finished.is_ok() {
+        let _ = tree::put(tree, height, slots, leaf, path);
     }
-    Answered::Asked { leaf, finished }
+    Ok((leaf, finished))
 }
 
 // Steps of an open request over its desk's sizes. A tree or path of another length is refused, and the request stays open.
@@ -65,11 +49,8 @@ fn fetch_finish(
     let height = desk[desk::HEIGHT];
     let slots = desk[desk::SLOTS];
     match tree::fetch(tree, height, slots, leaf, path) {
-        Outcome::Refused(r) => Answered::Asked {
-            leaf,
-            finished: Finished::Refused(r),
-        },
-        Outcome::Done => finish_put(desk, tree, path, record, height, slots, leaf),
+        Err(r) => Ok((leaf, Err(r))),
+        Ok(()) => finish_put(desk, tree, path, record, height, slots, leaf),
     }
 }
 
@@ -85,8 +66,6 @@ pub fn request(
 ) -> Answered
     ensures { requested result desk.new tree.new path.new «record».new ≡ request_of desk.old tree.old path.old «record».old kind id leaf }
 {
-    match asks::ask(desk, kind, id, leaf, record) {
-        Asked::Refused(r) => Answered::Refused(r),
-        Asked::Leaf(position) => fetch_finish(desk, tree, path, record, position),
-    }
+    let position = asks::ask(desk, kind, id, leaf, record)?;
+    fetch_finish(desk, tree, path, record, position)
 }

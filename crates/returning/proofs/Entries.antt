@@ -1,4 +1,5 @@
 -- An entry of the sheet: the line that is printed for it, and what comes of that line. Assumes nothing.
+use Rattle.std.specs.Prelude.{None, Option, Some}
 use Prim.Native.Nat.{ℕ, ◌<◌}
 use mathlib.Core.Path.{◌≡◌, refl, sym, ap, subst, ◌∙◌}
 use mathlib.Core.Bool.{Bool, true, false, cond, ◌&&◌}
@@ -16,8 +17,6 @@ use Rattle.listing.specs.Listing.{decimal}
 use Rattle.verdicts.specs.declared.Verdict.{Verdict}
 use Rattle.verdicts.specs.declared.Verdict.TheVariants.{Pass, Fail, Skipped, Error}
 use Rattle.verdicts.specs.declared.Entry.{Entry}
-use Rattle.verdicts.specs.declared.Reading.{Reading}
-use Rattle.verdicts.specs.declared.Reading.TheVariants.{Good, Bad}
 use Rattle.verdicts.specs.Verdict.{reading_of, name_in, record_of}
 use Rattle.verdicts.proofs.Written.{length-record}
 use Rattle.verdicts.proofs.Readable.{Readable, can-read, read-readable}
@@ -38,13 +37,13 @@ use Rattle.returning.proofs.Names.{good-bad, zeros-bad, verdict-made}
 -- what comes of an entry
 pub record Comes (chapter year : ℕ) (rec out : List ℕ) : Type 0 where
   pub none : is_said chapter rec ≡ false → out ≡ zeros record_len
-  pub same : (e : Entry) → reading_of rec ≡ Good e → e.chapter ≡ chapter → Plain (name_in rec e) → out ≡ record_of e.verdict chapter year (name_in rec e)
+  pub same : (e : Entry) → reading_of rec ≡ Some e → e.chapter ≡ chapter → Plain (name_in rec e) → out ≡ record_of e.verdict chapter year (name_in rec e)
   pub pass : WasPass chapter out → WasPass chapter rec
 
 true-false : {A : Type 0} → true ≡ false → A
 true-false h = absurd (let z : ◌≡◌ {A = ℕ} 0 1 = cc in omega arith)
 
-is_said_lem : (chapter : ℕ) (rec : List ℕ) (e : Entry) → reading_of rec ≡ Good e → e.chapter ≡ chapter → is_printable (name_in rec e) ≡ true → is_said chapter rec ≡ true
+is_said_lem : (chapter : ℕ) (rec : List ℕ) (e : Entry) → reading_of rec ≡ Some e → e.chapter ≡ chapter → is_printable (name_in rec e) ≡ true → is_said chapter rec ≡ true
 is_said_lem chapter rec e r c p = ap (reading_said chapter rec) r ∙ ap (λ (t : Bool). t && is_printable (name_in rec e)) (eq-eqb e.chapter chapter c) ∙ p
 
 -- ---- one that gets no line
@@ -53,9 +52,9 @@ pub unsaid-text : (chapter k : ℕ) (rec : List ℕ) → is_said chapter rec ≡
 unfolding entry_text
 unsaid-text chapter k rec = go (reading_of rec)
   where
-    go : (r : Reading) → reading_said chapter rec r ≡ false → reading_text chapter k rec r ≡ []
-    go (Good e) h = ap (λ (t : Bool). cond t (verdict_text k e.verdict (name_in rec e)) []) h
-    go Bad h = refl
+    go : (r : Option Entry) → reading_said chapter rec r ≡ false → reading_text chapter k rec r ≡ []
+    go (Some e) h = ap (λ (t : Bool). cond t (verdict_text k e.verdict (name_in rec e)) []) h
+    go None h = refl
 
 pub unsaid-comes : (chapter year : ℕ) (rec : List ℕ) → is_said chapter rec ≡ false → Comes chapter year rec (zeros record_len)
 unsaid-comes chapter year rec h =
@@ -98,7 +97,7 @@ dash-free : Free line_feed dash_text
 unfolding before
 dash-free = refl
 
-module _ (chapter year k : ℕ) (rec : List ℕ) (low : k < 65536) (e : Entry) (reads : reading_of rec ≡ Good e) (of : e.chapter ≡ chapter)
+module _ (chapter year k : ℕ) (rec : List ℕ) (low : k < 65536) (e : Entry) (reads : reading_of rec ≡ Some e) (of : e.chapter ≡ chapter)
     (printable : is_printable (name_in rec e) ≡ true) where
   abbrev name : List ℕ
   name = name_in rec e
@@ -169,8 +168,8 @@ module _ (chapter year k : ℕ) (rec : List ℕ) (low : k < 65536) (e : Entry) (
 pub said : (chapter year k : ℕ) (rec : List ℕ) → k < 65536 → is_said chapter rec ≡ true → Said chapter year k rec
 said chapter year k rec low h = go (reading_of rec) refl h
   where
-    go : (r : Reading) → reading_of rec ≡ r → reading_said chapter rec r ≡ true → Said chapter year k rec
-    go (Good e) r t =
+    go : (r : Option Entry) → reading_of rec ≡ r → reading_said chapter rec r ≡ true → Said chapter year k rec
+    go (Some e) r t =
         one chapter year k rec low e r (eqb-true _ _ (and_left (eqb e.chapter chapter) (is_printable (name_in rec e)) t))
         (and_right (eqb e.chapter chapter) (is_printable (name_in rec e)) t)
-    go Bad r t = true-false (sym t)
+    go None r t = true-false (sym t)

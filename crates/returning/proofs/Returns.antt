@@ -1,4 +1,5 @@
 -- What comes back of a sheet that is written as a text and read again. Assumes nothing.
+use Rattle.std.specs.Prelude.{Some}
 use Prim.Native.Nat.{ℕ, ◌+◌, ◌-◌, ◌*◌, ◌≤◌, ◌<◌}
 use mathlib.Core.Path.{◌≡◌, refl, ap, ◌∙◌}
 use mathlib.Core.Bool.{true, false}
@@ -16,7 +17,6 @@ use Rattle.slots.specs.Slots.{Bytes}
 use Rattle.window.specs.Pieces.{lines_of}
 use Rattle.listing.specs.Listing.{decimal}
 use Rattle.verdicts.specs.declared.Entry.{Entry}
-use Rattle.verdicts.specs.declared.Reading.TheVariants.{Good}
 use Rattle.verdicts.specs.Verdict.{reading_of, name_in}
 use Rattle.verdicts.proofs.Laws.{verdict-laws}
 use Rattle.lines.specs.Words.{version_line, plan_word}
@@ -81,7 +81,7 @@ bytes-part xs a n b i =
     let l : length (part xs a n) ≤ i = omega (arith, length-take n (drop a xs), min-le_left n (length (drop a xs))) in
     rw (get_or-eq_default (part xs a n) 0 {n = i} l) (omega arith))
 
-same_back : (chapter year n : ℕ) (sheet : List ℕ) → n < 65536 → Bytes sheet → (i : ℕ) → i < n → (e : Entry) → reading_of (entry_at sheet i) ≡ Good e → e.chapter ≡ chapter
+same_back : (chapter year n : ℕ) (sheet : List ℕ) → n < 65536 → Bytes sheet → (i : ℕ) → i < n → (e : Entry) → reading_of (entry_at sheet i) ≡ Some e → e.chapter ≡ chapter
     → e.year ≡ year → Plain (name_in (entry_at sheet i) e) → entry_at (back chapter year n sheet).sheet i ≡ entry_at sheet i
 same_back chapter year n sheet low bytes i inside e r c y p =
     ((all_back chapter year n low sheet).come i (omega arith) inside).same e r c p

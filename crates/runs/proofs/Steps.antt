@@ -12,7 +12,7 @@ use Rattle.words.proofs.Splice.{splice-nil}
 use Rattle.sizes.specs.Sizes.{sized, tree_len, path_len, most_slots}
 use Rattle.desk.specs.declared.Kind.{Kind}
 use Rattle.formats.specs.Format.{format_of, format_result}
-use Rattle.requests.specs.declared.Answered.{Answered}
+use Rattle.requests.specs.Request.{Answered}
 use Rattle.requests.specs.Request as requests
 use Rattle.requests.specs.Request.{RequestResult, requested}
 use Rattle.setup.specs.declared.Store.{Store}

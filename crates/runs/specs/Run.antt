@@ -4,8 +4,7 @@ use Rattle.std.specs.Prelude.{ℕ, ◌+◌, ◌^◌, ◌≤◌, ◌<◌, ◌≡�
 use Rattle.sizes.specs.Sizes.{InRange, record_len, most_ids}
 use Rattle.formats.specs.Format.{FormatResult, format_of}
 use Rattle.desk.specs.declared.Kind.{Kind}
-use Rattle.requests.specs.declared.Answered.{Answered}
-use Rattle.requests.specs.declared.Answered.TheVariants as answered
+use Rattle.requests.specs.Request.{Answered}
 use Rattle.store.specs.declared.Finished.{Finished}
 use Rattle.store.specs.declared.Finished.TheVariants as finished
 use Rattle.requests.specs.Request.{RequestResult}
@@ -80,8 +79,8 @@ answer_of (Err r) = answer.Refused r
 
 -- the leaf is shown if one was asked for
 abbrev pub row_for : Answered → ℕ → Kind → ℕ → List ℕ → List ℕ
-row_for (answered.Refused r) n kind id buffer = row_of n kind id shown.Nothing (answer.Refused r) buffer
-row_for (answered.Asked l f) n kind id buffer = row_of n kind id (shown.Leaf l) (answer_of f) buffer
+row_for (Err r) n kind id buffer = row_of n kind id shown.Nothing (answer.Refused r) buffer
+row_for (Ok (l, f)) n kind id buffer = row_of n kind id (shown.Leaf l) (answer_of f) buffer
 
 -- the request over what the store has of the buffers, and what they hold after it
 abbrev pub request_on : Store → Kind → ℕ → ℕ → List ℕ → Shelf → RequestResult

@@ -17,8 +17,6 @@ use Rattle.book.specs.MatrixRow.{row_rows, row_checked}
 use Rattle.printing.specs.Printed.{room_of}
 use Rattle.printing.specs.Printing.{text_of}
 use Rattle.sheets.specs.Sheet.{empty_sheet}
-use Rattle.tap.specs.declared.Printed.{Printed}
-use Rattle.tap.specs.declared.Printed.TheVariants as printed
 use Rattle.passing.specs.Passing.{SheetResult, sheet_passed, pass_of}
 use Rattle.tap.specs.Tap.{wrote, write_checked, printed_by, write_passed, write_by, write_of}
 
@@ -87,14 +85,14 @@ module _ (desk tree : List ℕ) (chapter first n : ℕ) (draws out : List ℕ) {
       ap (λ (x : Result Unit Refusal). printed_by x chapter n (sheet_passed o d t s) out) (sym h)
       ∙ ap (λ (r : SheetResult). write_passed chapter n r out) (e ∙ ap (λ (y : List ℕ). pass_of desk tree first draws y) z)
 
-  pub range-refused : {q : Refusal} → o ≡ Err q → wrote (printed.Refused q) d t out ≡ write_passed chapter n (pass_of desk tree first draws (empty_sheet n)) out
+  pub range-refused : {q : Refusal} → o ≡ Err q → wrote (Err q) d t out ≡ write_passed chapter n (pass_of desk tree first draws (empty_sheet n)) out
   range-refused h = by-pass h
 
   pub range-printed : o ≡ Ok tt → {to : List ℕ} {k : ℕ} → Wrote out 0 (text_of chapter n s) to k
-      → wrote (printed.Length k) d t to ≡ write_passed chapter n (pass_of desk tree first draws (empty_sheet n)) out
+      → wrote (Ok k) d t to ≡ write_passed chapter n (pass_of desk tree first draws (empty_sheet n)) out
   range-printed h {k = k} w =
       let m : k ≡ length (text_of chapter n s) = omega (arith, w.next_is) in
-      ap₂ (λ (i : ℕ) (y : List ℕ). wrote (printed.Length i) d t y) m w.is ∙ by-pass h
+      ap₂ (λ (i : ℕ) (y : List ℕ). wrote (Ok i) d t y) m w.is ∙ by-pass h
 
 -- ---- by the checks
 
@@ -102,10 +100,10 @@ module _ (desk tree : List ℕ) (chapter first end : ℕ) (draws out : List ℕ)
   by-checks : {o : Result Unit Refusal} → write_checked desk tree first end draws out ≡ o → write_by o desk tree chapter first end draws out ≡ write_of desk tree chapter first end draws out
   by-checks h = ap (λ (x : Result Unit Refusal). write_by x desk tree chapter first end draws out) (sym h)
 
-  pub write-refused : {q : Refusal} → write_checked desk tree first end draws out ≡ Err q → wrote (printed.Refused q) desk tree out ≡ write_of desk tree chapter first end draws out
+  pub write-refused : {q : Refusal} → write_checked desk tree first end draws out ≡ Err q → wrote (Err q) desk tree out ≡ write_of desk tree chapter first end draws out
   write-refused h = by-checks h
 
-  pub write_done : write_checked desk tree first end draws out ≡ Ok tt → {a : Printed} {d t to : List ℕ}
+  pub write_done : write_checked desk tree first end draws out ≡ Ok tt → {a : Result ℕ Refusal} {d t to : List ℕ}
       → wrote a d t to ≡ write_passed chapter (end - first) (pass_of desk tree first draws (empty_sheet (end - first))) out
       → wrote a d t to ≡ write_of desk tree chapter first end draws out
   write_done h k = k ∙ by-checks h

@@ -14,8 +14,6 @@ use Rattle.taking.specs.Taking.{TextResult, take_of}
 use Rattle.printing.specs.Printing.{text_of}
 use Rattle.tap.specs.declared.Taken.{Taken}
 use Rattle.tap.specs.declared.Taken.TheVariants as taken
-use Rattle.tap.specs.declared.Printed.{Printed}
-use Rattle.tap.specs.declared.Printed.TheVariants as printed
 use Rattle.passing.specs.Passing.{SheetResult, pass_of}
 
 -- ---- reading: the book's refusals, then the text's, then those of the requests
@@ -53,12 +51,12 @@ read_of desk tree chapter year first end draws text = read_by (row_checked desk 
 -- ---- writing: the book's refusals, then a buffer of another length than the room for the range; then those of the requests. After a refusal the buffer is as it was
 
 pub record WriteResult : Type 0 where
-  pub answer : Printed
+  pub answer : Result ℕ Refusal
   pub desk : List ℕ
   pub tree : List ℕ
   pub out : List ℕ
 
-abbrev pub wrote : Printed → List ℕ → List ℕ → List ℕ → WriteResult
+abbrev pub wrote : Result ℕ Refusal → List ℕ → List ℕ → List ℕ → WriteResult
 wrote a d t o = record { answer = a; desk = d; tree = t; out = o }
 
 abbrev pub write_rows : List ℕ → List ℕ → ℕ → ℕ → List ℕ → List ℕ → List (Bool × Refusal)
@@ -69,15 +67,15 @@ write_checked desk tree first end draws out = first_of (write_rows desk tree fir
 
 -- the text goes to the buffer's front, and the answer is its length
 abbrev pub printed_by : Result Unit Refusal → ℕ → ℕ → SheetResult → List ℕ → WriteResult
-printed_by (Err q) chapter n r out = wrote (printed.Refused q) r.desk r.tree out
+printed_by (Err q) chapter n r out = wrote (Err q) r.desk r.tree out
 printed_by (Ok tt) chapter n r out =
-    wrote (printed.Length (length (text_of chapter n r.sheet))) r.desk r.tree (splice out 0 (text_of chapter n r.sheet))
+    wrote (Ok (length (text_of chapter n r.sheet))) r.desk r.tree (splice out 0 (text_of chapter n r.sheet))
 
 abbrev pub write_passed : ℕ → ℕ → SheetResult → List ℕ → WriteResult
 write_passed chapter n r out = printed_by r.answer chapter n r out
 
 abbrev pub write_by : Result Unit Refusal → List ℕ → List ℕ → ℕ → ℕ → ℕ → List ℕ → List ℕ → WriteResult
-write_by (Err q) desk tree chapter first end draws out = wrote (printed.Refused q) desk tree out
+write_by (Err q) desk tree chapter first end draws out = wrote (Err q) desk tree out
 write_by (Ok tt) desk tree chapter first end draws out =
     write_passed chapter (end - first) (pass_of desk tree first draws (empty_sheet (end - first))) out
 

@@ -1,4 +1,5 @@
 -- A record read: the tests of the code, put together, are those of a good record. Assumes nothing.
+use Rattle.std.specs.Prelude.{None, Some}
 use Prim.Native.Nat.{ℕ, ◌≤◌}
 use mathlib.Core.Path.{◌≡◌, ap, ◌∙◌}
 use mathlib.Core.Bool.{Bool, true, false, ◌&&◌}
@@ -11,17 +12,16 @@ use borrow.Author.Tests.{eq-eqb, ne_eqb}
 use Rattle.words.proofs.Tests.{by_cases}
 use Rattle.sizes.specs.Sizes.{record_len}
 use Rattle.verdicts.specs.declared.Entry.{Entry}
-use Rattle.verdicts.specs.declared.Reading.TheVariants.{Good, Bad}
 use Rattle.verdicts.specs.Verdict.{verdict_at, chapter_at, name_at, most_name, most_chapter, is_verdict, until_zero, is_padded, name_field, name_length, good_record, entry_in, reading_of}
 use Rattle.verdicts.proofs.Name.{until-le}
 
-pub reading-good : (rec : List ℕ) → good_record rec ≡ true → reading_of rec ≡ Good (entry_in rec)
+pub reading-good : (rec : List ℕ) → good_record rec ≡ true → reading_of rec ≡ Some (entry_in rec)
 reading-good rec h = rw h
 
-pub reading-bad : (rec : List ℕ) → good_record rec ≡ false → reading_of rec ≡ Bad
+pub reading-bad : (rec : List ℕ) → good_record rec ≡ false → reading_of rec ≡ None
 reading-bad rec h = rw h
 
-pub bad-length : (rec : List ℕ) → (length rec ≡ record_len → ⊥) → reading_of rec ≡ Bad
+pub bad-length : (rec : List ℕ) → (length rec ≡ record_len → ⊥) → reading_of rec ≡ None
 unfolding good_record
 bad-length rec h = rw (ne_eqb (length rec) record_len h)
 
@@ -30,7 +30,7 @@ name_short : (rec : List ℕ) → name_length rec ≤ most_name
 unfolding name_length
 name_short rec = omega (arith, until-le (name_field rec), length-take most_name (drop name_at rec), min-le_left most_name (length (drop name_at rec)))
 
-pub length-short : (rec : List ℕ) (e : Entry) → reading_of rec ≡ Good e → e.length ≤ most_name
+pub length-short : (rec : List ℕ) (e : Entry) → reading_of rec ≡ Some e → e.length ≤ most_name
 unfolding entry_in
 length-short rec e h =
     by_cases (good_record rec)

@@ -1,4 +1,5 @@
 -- A verdict made, then read, is the same; and a record that reads as a verdict is the one that making gives. Assumes nothing.
+use Rattle.std.specs.Prelude.{Some}
 use Prim.Native.Nat.{ℕ, ◌-◌, ◌<◌}
 use mathlib.Core.Path.{◌≡◌, refl, sym, ap, ap₂, subst, ◌∙◌}
 use mathlib.Core.Bool.{true}
@@ -20,7 +21,6 @@ use Rattle.desk.proofs.Request.{zero-zeros}
 use Rattle.verdicts.specs.declared.Verdict.{Verdict}
 use Rattle.verdicts.specs.declared.Verdict.TheVariants.{Pass, Fail, Skipped, Error}
 use Rattle.verdicts.specs.declared.Entry.{Entry}
-use Rattle.verdicts.specs.declared.Reading.TheVariants.{Good}
 use Rattle.verdicts.specs.Verdict.{name_at, year_at, year_len, most_name, verdict_number, is_verdict, verdict_of, until_zero, is_padded, name_field, name_length, good_record, entry_in, reading_of, name_in, head_of, record_of, entry, ReadsBack, MadeAgain, VerdictLaws}
 use Rattle.verdicts.proofs.Name.{until-append}
 use Rattle.verdicts.proofs.GoodRecord.{reading-good}
@@ -117,7 +117,7 @@ module _ (v : Verdict) (chapter year : ℕ) (name : List ℕ) (y : year < 65536)
       ∙ part_left name pad 0 (length name) (omega arith) ∙ part-whole name (length name) (omega arith)
 
   reads-back : ReadsBack v chapter year name
-  reads-back = record { reads = reading-good (record_of v chapter year name) good ∙ ap Good entry-is; name_is = name_back }
+  reads-back = record { reads = reading-good (record_of v chapter year name) good ∙ ap Some entry-is; name_is = name_back }
 
 -- ---- read, then made
 
@@ -152,7 +152,7 @@ module _ (rec : List ℕ) (bytes : Bytes rec) (good : good_record rec ≡ true) 
   unfolding entry_in
   made-entry = made
 
-made_again : (rec : List ℕ) (e : Entry) → Bytes rec → reading_of rec ≡ Good e → MadeAgain rec e
+made_again : (rec : List ℕ) (e : Entry) → Bytes rec → reading_of rec ≡ Some e → MadeAgain rec e
 made_again rec e bytes h =
     let k = entry_read rec e h in
     record {

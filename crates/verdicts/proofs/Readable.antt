@@ -1,4 +1,5 @@
 -- What can be read back, and what is known of a good record: its length, its tests, and a name that can be read back. Assumes nothing.
+use Rattle.std.specs.Prelude.{None, Some}
 use Prim.Native.Nat.{ℕ, ◌≤◌}
 use mathlib.Core.Path.{◌≡◌, refl, sym, ap, subst, ◌∙◌}
 use mathlib.Core.Bool.{Bool, true, false, cond}
@@ -13,7 +14,6 @@ use Rattle.words.proofs.Tests.{and_left, and_right, each, every_of}
 use Rattle.words.proofs.Splice.{length_part, part-part}
 use Rattle.sizes.specs.Sizes.{record_len}
 use Rattle.verdicts.specs.declared.Entry.{Entry}
-use Rattle.verdicts.specs.declared.Reading.TheVariants.{Good, Bad}
 use Rattle.verdicts.specs.Verdict.{name_at, most_name, most_chapter, is_verdict, until_zero, is_padded, name_field, name_length, good_record, entry_in, reading_of, name_in, can_be_read}
 use Rattle.verdicts.proofs.Name.{until-le, until-take}
 
@@ -82,14 +82,14 @@ module _ (rec : List ℕ) (good : good_record rec ≡ true) where
 
 -- ---- a reading that is good is that of a good record
 
-good-case : (k : Bool) (x e : Entry) → cond k (Good x) Bad ≡ Good e → (k ≡ true) × (x ≡ e)
+good-case : (k : Bool) (x e : Entry) → cond k (Some x) None ≡ Some e → (k ≡ true) × (x ≡ e)
 good-case true x e h = (refl, cc)
 good-case false x e h = let z : ◌≡◌ {A = ℕ} 0 1 = cc in absurd (omega arith)
 
-pub entry_read : (rec : List ℕ) (e : Entry) → reading_of rec ≡ Good e → (good_record rec ≡ true) × (entry_in rec ≡ e)
+pub entry_read : (rec : List ℕ) (e : Entry) → reading_of rec ≡ Some e → (good_record rec ≡ true) × (entry_in rec ≡ e)
 entry_read rec e h = good-case (good_record rec) (entry_in rec) e h
 
-pub read-readable : (rec : List ℕ) (e : Entry) → reading_of rec ≡ Good e → Readable e.chapter (name_in rec e)
+pub read-readable : (rec : List ℕ) (e : Entry) → reading_of rec ≡ Some e → Readable e.chapter (name_in rec e)
 read-readable rec e h =
     let k = entry_read rec e h in
     subst (λ (x : Entry). Readable x.chapter (name_in rec x)) k.1 (says-readable rec k.0)

@@ -1,17 +1,13 @@
 -- The six columns of a matrix row: which one a case stands in, and counts of them. Assumes nothing.
 use Rattle.sizes.specs.declared.Refusal.{Refusal}
-use Rattle.std.specs.Prelude.{ℕ, ◌+◌, cond, List, eqb, Err, Ok, Result}
+use Rattle.std.specs.Prelude.{ℕ, ◌+◌, cond, List, eqb, Err, Ok, Result, None, Option, Some}
 use Rattle.store.specs.declared.Finished.{Finished}
 use Rattle.store.specs.declared.Finished.TheVariants as finished
 use Rattle.verdicts.specs.declared.Verdict.{Verdict}
 use Rattle.verdicts.specs.declared.Verdict.TheVariants as verdict
 use Rattle.verdicts.specs.declared.Entry.{Entry}
-use Rattle.verdicts.specs.declared.Reading.{Reading}
-use Rattle.verdicts.specs.declared.Reading.TheVariants as reading
 use Rattle.verdicts.specs.declared.counts.Cell.{Cell}
 use Rattle.verdicts.specs.declared.counts.Cell.TheVariants.{Passed, Failed, Skipped, Errors, Bad, NotRun}
-use Rattle.verdicts.specs.declared.counts.Found.{Found}
-use Rattle.verdicts.specs.declared.counts.Found.TheVariants as found
 use Rattle.verdicts.specs.declared.counts.Counts.{Counts}
 use Rattle.verdicts.specs.Verdict.{reading_of}
 
@@ -27,20 +23,20 @@ verdict_cell verdict.Error = Errors
 abbrev pub entry_cell : ℕ → Entry → Cell
 entry_cell chapter e = cond (eqb e.chapter chapter) (verdict_cell e.verdict) Bad
 
-abbrev pub reading_cell : ℕ → Reading → Cell
-reading_cell chapter (reading.Good e) = entry_cell chapter e
-reading_cell chapter reading.Bad = Bad
+abbrev pub reading_cell : ℕ → Option Entry → Cell
+reading_cell chapter (Some e) = entry_cell chapter e
+reading_cell chapter None = Bad
 
 unfoldable pub record_cell : ℕ → List ℕ → Cell
 record_cell chapter rec = reading_cell chapter (reading_of rec)
 
 -- a read's column, by its answer and the record that it left in the buffer. Never is not run, and nothing else is. A read is never answered by Done
 -- (`never_done`, in the promises); it would be no verdict
-abbrev pub found_of : ℕ → Result Finished Refusal → List ℕ → Found
-found_of chapter (Ok finished.Record) rec = found.Cell (record_cell chapter rec)
-found_of chapter (Ok finished.Never) rec = found.Cell NotRun
-found_of chapter (Ok finished.Done) rec = found.Cell Bad
-found_of chapter (Err q) rec = found.Refused q
+abbrev pub found_of : ℕ → Result Finished Refusal → List ℕ → Result Cell Refusal
+found_of chapter (Ok finished.Record) rec = Ok (record_cell chapter rec)
+found_of chapter (Ok finished.Never) rec = Ok NotRun
+found_of chapter (Ok finished.Done) rec = Ok Bad
+found_of chapter (Err q) rec = Err q
 
 -- ---- counts
 

@@ -1,5 +1,5 @@
 -- A verdict in a record: where its parts stand, which records can be read, what they say, and the record that is made of a verdict. Assumes nothing.
-use Rattle.std.specs.Prelude.{ℕ, ◌-◌, ◌<◌, ◌≡◌, Bool, true, cond, ◌&&◌, List, ◌∷◌, ◌++◌, length, get_or, leb, eqb}
+use Rattle.std.specs.Prelude.{ℕ, ◌-◌, ◌<◌, ◌≡◌, Bool, true, cond, ◌&&◌, List, ◌∷◌, ◌++◌, length, get_or, leb, eqb, None, Option, Some}
 use Rattle.words.specs.Bytes.{part, zeros}
 use Rattle.words.specs.Numbers.{number, bytes_of}
 use Rattle.words.specs.Tests.{all_zero}
@@ -9,8 +9,6 @@ use Rattle.slots.specs.Slots.{Bytes}
 use Rattle.verdicts.specs.declared.Verdict.{Verdict}
 use Rattle.verdicts.specs.declared.Verdict.TheVariants.{Pass, Fail, Skipped, Error}
 use Rattle.verdicts.specs.declared.Entry.{Entry}
-use Rattle.verdicts.specs.declared.Reading.{Reading}
-use Rattle.verdicts.specs.declared.Reading.TheVariants.{Good, Bad}
 
 -- ---- verdict 1, chapter 1, suite year 2, and the name in the rest
 
@@ -72,8 +70,8 @@ unfoldable pub entry_in : List ℕ → Entry
 entry_in rec =
     record { verdict = verdict_of (get_or rec verdict_at 0); chapter = get_or rec chapter_at 0; year = number year_len rec year_at; length = name_length rec }
 
-abbrev pub reading_of : List ℕ → Reading
-reading_of rec = cond (good_record rec) (Good (entry_in rec)) Bad
+abbrev pub reading_of : List ℕ → Option Entry
+reading_of rec = cond (good_record rec) (Some (entry_in rec)) None
 
 -- the name that an entry of a record speaks of
 abbrev pub name_in : List ℕ → Entry → List ℕ
@@ -111,7 +109,7 @@ abbrev pub entry : Verdict → ℕ → ℕ → ℕ → Entry
 entry v chapter year len = record { verdict = v; chapter = chapter; year = year; length = len }
 
 pub record ReadsBack (v : Verdict) (chapter year : ℕ) (name : List ℕ) : Type 0 where
-  pub reads : reading_of (record_of v chapter year name) ≡ Good (entry v chapter year (length name))
+  pub reads : reading_of (record_of v chapter year name) ≡ Some (entry v chapter year (length name))
   pub name_is : name_in (record_of v chapter year name) (entry v chapter year (length name)) ≡ name
 
 pub record MadeAgain (rec : List ℕ) (e : Entry) : Type 0 where
@@ -120,4 +118,4 @@ pub record MadeAgain (rec : List ℕ) (e : Entry) : Type 0 where
 
 pub record VerdictLaws : Type 0 where
   pub made_read : (v : Verdict) (chapter year : ℕ) (name : List ℕ) → year < 65536 → can_be_read chapter name ≡ true → ReadsBack v chapter year name
-  pub read_made : (rec : List ℕ) (e : Entry) → Bytes rec → reading_of rec ≡ Good e → MadeAgain rec e
+  pub read_made : (rec : List ℕ) (e : Entry) → Bytes rec → reading_of rec ≡ Some e → MadeAgain rec e

@@ -1,4 +1,5 @@
 -- `printing::put_entry` meets its contract: by what was read, a line or none. Assumes nothing.
+use Rattle.std.specs.Prelude.{Some}
 use Prim.Native.Nat.{ℕ, ◌+◌, ◌-◌, ◌≤◌}
 use mathlib.Core.Path.{◌≡◌, sym, ap, ◌∙◌}
 use mathlib.Core.Bool.{true, false, ◌&&◌}
@@ -7,7 +8,6 @@ use native.Mathlib.Omega.{arith}
 use lib.ListN.{length, take, drop, length-take}
 use lib.Dec.{eqb}
 use Rattle.sizes.specs.Sizes.{record_len}
-use Rattle.verdicts.specs.declared.Reading.TheVariants.{Good}
 use Rattle.verdicts.specs.Verdict.{name_at, most_name, reading_of, name_in}
 use Rattle.verdicts.proofs.GoodRecord.{length-short}
 use Rattle.printing.specs.Printed.{verdict_text, is_printable}
@@ -17,13 +17,13 @@ use Rattle.printing.proofs.put_entry.Goals as goal
 
 pub overflow_add-to : goal.overflow_add-to
 overflow_add-to c =
-    let reading : reading_of c.args.entry.now ≡ Good c.in-Good.says = sym c.read.ensures ∙ c.in-Good.is in
+    let reading : reading_of c.args.entry.now ≡ Some c.in-Good.says = sym c.read.ensures ∙ c.in-Good.is in
     let short : c.in-Good.says.length ≤ most_name = length-short _ _ reading in
     omega (arith, short)
 
 pub slice_bounds-is_printable-end : goal.slice_bounds-is_printable-end
 slice_bounds-is_printable-end c =
-    let reading : reading_of c.args.entry.now ≡ Good c.in-Good.says = sym c.read.ensures ∙ c.in-Good.is in
+    let reading : reading_of c.args.entry.now ≡ Some c.in-Good.says = sym c.read.ensures ∙ c.in-Good.is in
     let short : c.in-Good.says.length ≤ most_name = length-short _ _ reading in
     let long : length c.args.entry.now ≡ record_len = good_length _ _ reading in
     let k : name_at + c.in-Good.says.length ≤ length c.args.entry.now = omega (arith, short, long) in
@@ -31,7 +31,7 @@ slice_bounds-is_printable-end c =
 
 pub returns-then-not-printed : goal.returns-then-not-printed
 returns-then-not-printed c =
-    let reading : reading_of c.args.entry.now ≡ Good c.in-Good.says = sym c.read.ensures ∙ c.in-Good.is in
+    let reading : reading_of c.args.entry.now ≡ Some c.in-Good.says = sym c.read.ensures ∙ c.in-Good.is in
     let name_is : let s = c.args.entry.now in let e = c.in-Good.says in take (name_at + e.length - name_at) (drop name_at s) ≡ name_in s e = let k : name_at + c.in-Good.says.length - name_at ≡ c.in-Good.says.length = omega arith in
     ap (λ (n : ℕ). take n (drop name_at c.args.entry.now)) k in
     let printable : c.is_printable.result ≡ is_printable (name_in c.args.entry.now c.in-Good.says) = c.is_printable.ensures ∙ ap is_printable name_is in
@@ -43,7 +43,7 @@ returns-then-not-printed c =
 
 pub slice_bounds-put_verdict-end : goal.slice_bounds-put_verdict-end
 slice_bounds-put_verdict-end c =
-    let reading : reading_of c.args.entry.now ≡ Good c.in-Good.says = sym c.read.ensures ∙ c.in-Good.is in
+    let reading : reading_of c.args.entry.now ≡ Some c.in-Good.says = sym c.read.ensures ∙ c.in-Good.is in
     let short : c.in-Good.says.length ≤ most_name = length-short _ _ reading in
     let long : length c.args.entry.now ≡ record_len = good_length _ _ reading in
     let k : name_at + c.in-Good.says.length ≤ length c.args.entry.now = omega (arith, short, long) in
@@ -51,7 +51,7 @@ slice_bounds-put_verdict-end c =
 
 pub put_verdict-requires : goal.put_verdict-requires
 put_verdict-requires c =
-    let reading : reading_of c.args.entry.now ≡ Good c.in-Good.says = sym c.read.ensures ∙ c.in-Good.is in
+    let reading : reading_of c.args.entry.now ≡ Some c.in-Good.says = sym c.read.ensures ∙ c.in-Good.is in
     let short : c.in-Good.says.length ≤ most_name = length-short _ _ reading in
     let n = length-take (name_at + c.in-Good.says.length - name_at) (drop name_at c.args.entry.now) in
     (c.requires.0, omega (arith, n, short), omega arith)
@@ -63,7 +63,7 @@ returns-in-Bad c =
 
 pub returns-else-not-printed : goal.returns-else-not-printed
 returns-else-not-printed c =
-    let reading : reading_of c.args.entry.now ≡ Good c.in-Good.says = sym c.read.ensures ∙ c.in-Good.is in
+    let reading : reading_of c.args.entry.now ≡ Some c.in-Good.says = sym c.read.ensures ∙ c.in-Good.is in
     let name_is : let s = c.args.entry.now in let e = c.in-Good.says in take (name_at + e.length - name_at) (drop name_at s) ≡ name_in s e = let k : name_at + c.in-Good.says.length - name_at ≡ c.in-Good.says.length = omega arith in
     ap (λ (n : ℕ). take n (drop name_at c.args.entry.now)) k in
     let printable : c.is_printable.result ≡ is_printable (name_in c.args.entry.now c.in-Good.says) = c.is_printable.ensures ∙ ap is_printable name_is in

@@ -2,8 +2,8 @@
 use Rattle.requests.proofs.Composed.{fetch-refused, fetch-done}
 use Rattle.requests.proofs.fetch_finish.Goals as goal
 
-pub returns-in-Refused : goal.returns-in-Refused
-returns-in-Refused c = let a = c.args in fetch-refused _ a.leaf a.desk.now a.tree.now a.path.now a.«record».now c.fetch.ensures c.in-Refused.is
+pub returns-in-Err : goal.returns-in-Err
+returns-in-Err c = let a = c.args in fetch-refused _ a.leaf a.desk.now a.tree.now a.path.now a.«record».now c.fetch.ensures c.in-Err.is
 
-pub returns-in-Done : goal.returns-in-Done
-returns-in-Done c = let a = c.args in fetch-done _ a.leaf a.desk.now a.tree.now a.path.now a.«record».now c.fetch.ensures c.in-Done.is c.finish_put.ensures
+pub returns-in-Ok : goal.returns-in-Ok
+returns-in-Ok c = let a = c.args in fetch-done _ a.leaf a.desk.now a.tree.now a.path.now a.«record».now c.fetch.ensures c.in-Ok.is c.finish_put.ensures

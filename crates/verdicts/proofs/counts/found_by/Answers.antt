@@ -1,14 +1,13 @@
 -- `verdicts::counts::found_by` meets its contract: by the four answers. Assumes nothing.
-use Rattle.std.specs.Prelude.{Result}
+use Rattle.std.specs.Prelude.{Result, Ok}
 use Rattle.sizes.specs.declared.Refusal.{Refusal}
 use mathlib.Core.Path.{sym, ap, ◌∙◌}
 use Rattle.store.specs.declared.Finished.{Finished}
-use Rattle.verdicts.specs.declared.counts.Found.TheVariants as found
 use Rattle.verdicts.specs.Cells.{found_of}
 use Rattle.verdicts.proofs.counts.found_by.Goals as goal
 
 pub returns-in-Record : goal.returns-in-Record
-returns-in-Record c = ap found.Cell c.record_cell.ensures ∙ sym (ap (λ (f : Result Finished Refusal). found_of c.args.chapter f c.args.«record».now) c.in-Record.is)
+returns-in-Record c = ap Ok c.record_cell.ensures ∙ sym (ap (λ (f : Result Finished Refusal). found_of c.args.chapter f c.args.«record».now) c.in-Record.is)
 
 pub returns-in-Never : goal.returns-in-Never
 returns-in-Never c = sym (ap (λ (f : Result Finished Refusal). found_of c.args.chapter f c.args.«record».now) c.in-Never.is)
