@@ -1,13 +1,13 @@
 -- A record read: the tests of the code, put together, are those of a good record. Assumes nothing.
 use Rattle.std.specs.Prelude.{None, Some}
 use Prim.Native.Nat.{ℕ, ◌≤◌}
-use mathlib.Core.Path.{◌≡◌, ap, ◌∙◌}
+use mathlib.Core.Path.{◌≡◌, refl, ap, ◌∙◌}
 use mathlib.Core.Bool.{Bool, true, false, ◌&&◌}
 use mathlib.Core.List.{List}
 use native.Mathlib.Omega.{arith}
 use native.Mathlib.Nat.{min-le_left}
 use lib.ListN.{length, get_or, drop, length-take}
-use lib.Dec.{leb}
+use lib.Dec.{leb, eqb}
 use borrow.Author.Tests.{eq-eqb, ne_eqb}
 use Rattle.words.proofs.Tests.{by_cases}
 use Rattle.sizes.specs.Sizes.{record_len}
@@ -24,6 +24,11 @@ reading-bad rec h = rw h
 pub bad-length : (rec : List ℕ) → (length rec ≡ record_len → ⊥) → reading_of rec ≡ None
 unfolding good_record
 bad-length rec h = rw (ne_eqb (length rec) record_len h)
+
+-- a first byte that is no verdict's number
+pub no-verdict : (rec : List ℕ) → is_verdict (get_or rec verdict_at 0) ≡ false → good_record rec ≡ false
+unfolding good_record
+no-verdict rec h = rw h (by_cases (eqb (length rec) record_len) (λ e. rw e refl) (λ e. rw e refl))
 
 -- a name is no longer than its field, however long the list is
 name_short : (rec : List ℕ) → name_length rec ≤ most_name

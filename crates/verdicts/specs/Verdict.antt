@@ -1,5 +1,5 @@
 -- A verdict in a record: where its parts stand, which records can be read, what they say, and the record that is made of a verdict. Assumes nothing.
-use Rattle.std.specs.Prelude.{ℕ, ◌-◌, ◌<◌, ◌≡◌, Bool, true, cond, ◌&&◌, List, ◌∷◌, ◌++◌, length, get_or, leb, eqb, None, Option, Some}
+use Rattle.std.specs.Prelude.{ℕ, ◌-◌, ◌<◌, ◌≡◌, Bool, true, false, cond, ◌&&◌, List, ◌∷◌, ◌++◌, length, get_or, leb, eqb, None, Option, Some, Result, MatchResult}
 use Rattle.words.specs.Bytes.{part, zeros}
 use Rattle.words.specs.Numbers.{number, bytes_of}
 use Rattle.words.specs.Tests.{all_zero}
@@ -8,6 +8,7 @@ use Rattle.sizes.specs.Sizes.{record_len}
 use Rattle.slots.specs.Slots.{Bytes}
 use Rattle.verdicts.specs.declared.Verdict.{Verdict}
 use Rattle.verdicts.specs.declared.Verdict.TheVariants.{Pass, Fail, Skipped, Error}
+use Rattle.verdicts.specs.declared.NoVerdict.{NoVerdict}
 use Rattle.verdicts.specs.declared.Entry.{Entry}
 
 -- ---- verdict 1, chapter 1, suite year 2, and the name in the rest
@@ -47,6 +48,10 @@ is_verdict x = leb 1 x && leb x 4
 -- of 1 to 4; others are no verdict
 abbrev pub verdict_of : ℕ → Verdict
 verdict_of x = cond (eqb x 1) Pass (cond (eqb x 2) Fail (cond (eqb x 3) Skipped Error))
+
+-- a number names a verdict, or none
+abbrev pub Names : ℕ → Result Verdict NoVerdict → Type 0
+Names x r = MatchResult r (λ v. (is_verdict x ≡ true) × (v ≡ verdict_of x)) (λ e. is_verdict x ≡ false)
 
 -- ---- reading: the name is what stands before the first zero, and zeros follow it
 

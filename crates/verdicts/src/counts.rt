@@ -2,12 +2,12 @@
 ghost use Rattle.std.specs.Prelude.{◌≡◌, ◌<◌};
 ghost use Rattle.verdicts.specs.Cells.{verdict_cell, record_cell, found_of, plus, sum};
 
-use crate::{Reading, Verdict};
+use crate::Verdict;
 use sizes::Refusal;
 use store::Finished;
 
 // Where a case stands in a row: by its verdict, or as a record that is bad, or as never run.
-#[derive(Clone, Copy, Drop)]
+#[derive(Clone, Copy, Debug, PartialEq, Eq)]
 pub enum Cell {
     Passed,
     Failed,
@@ -17,14 +17,7 @@ pub enum Cell {
     NotRun,
 }
 
-// What the read of a case comes to.
-#[derive(Clone, Copy, Drop)]
-pub enum Found {
-    Cell(Cell),
-    Refused(Refusal),
-}
-
-#[derive(Clone, Copy, Drop)]
+#[derive(Clone, Copy, Debug, PartialEq, Eq)]
 pub struct Counts {
     pub passed: u16,
     pub failed: u16,
@@ -34,11 +27,11 @@ pub struct Counts {
     pub not_run: u16,
 }
 
-// What a row answers, complete exactly if every case has passed; or the refusal that ended it, and no counts.
-#[derive(Clone, Copy, Drop)]
-pub enum Row {
-    Refused(Refusal),
-    Counted { counts: Counts, complete: bool },
+// What a row that is not refused answers, complete exactly if every case has passed.
+#[derive(Clone, Copy, Debug, PartialEq, Eq)]
+pub struct Row {
+    pub counts: Counts,
+    pub complete: bool,
 }
 
 fn verdict_cell(v: Verdict) -> Cell
@@ -56,28 +49,25 @@ fn verdict_cell(v: Verdict) -> Cell
 pub fn record_cell(chapter: u8, record: &[u8]) -> Cell
     ensures { result ≡ record_cell chapter «record».now }
 {
-    match crate::read(record) {
-        Reading::Good(entry) => {
-            if entry.chapter != chapter {
-                return Cell::Bad;
-            }
-            let verdict = entry.verdict;
-            verdict_cell(verdict)
-        }
-        Reading::Bad => Cell::Bad,
-    }
+    let Some(entry) = crate::read(record) else {
+        return Cell::Bad;
+    };
+    if entry.chapter == chapter { verdict_cell(entry.verdict) } else { Cell::Bad }
 }
 
 // A read's column, by its answer and the record that it left. No read is answered by Done; were one, it would count as bad and paint nothing over.
-pub fn found_by(chapter: u8, finished: Finished, record: &[u8]) -> Found
+pub fn found_by(
+    chapter: u8,
+    finished: Result<Finished, Refusal>,
+    record: &[u8],
+) -> Result<Cell, Refusal>
     ensures { result ≡ found_of chapter finished «record».now }
 {
-    match finished {
-        Finished::Record => Found::Cell(record_cell(chapter, record)),
-        Finished::Never => Found::Cell(Cell::NotRun),
-        Finished::Done => Found::Cell(Cell::Bad),
-        Finished::Refused(q) => Found::Refused(q),
-    }
+    Ok(match finished? {
+        Finished::Record => record_cell(chapter, record),
+        Finished::Never => Cell::NotRun,
+        Finished::Done => Cell::Bad,
+    })
 }
 
 impl Counts {

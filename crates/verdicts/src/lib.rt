@@ -3,7 +3,7 @@
 
 ghost use Rattle.std.specs.Prelude.{◌≡◌, ◌≤◌, length};
 ghost use Rattle.sizes.specs.Sizes.{record_len};
-ghost use Rattle.verdicts.specs.Verdict.{most_name, verdict_number, is_verdict, verdict_of, is_padded, reading_of, can_be_read, head_of, record_of, make_of, making};
+ghost use Rattle.verdicts.specs.Verdict.{most_name, Names, verdict_number, is_padded, reading_of, can_be_read, head_of, record_of, make_of, making};
 
 use sizes::Sizes;
 use text::bytes;
@@ -24,7 +24,7 @@ pub const MOST_NAME: usize = Sizes::RECORD - NAME;
 pub const MOST_CHAPTER: u8 = 31;
 
 // The numbers of the verdicts are 1 to 4, in this order. 0 is none of them, so that zeros are never a pass.
-#[derive(Clone, Copy, Drop)]
+#[derive(Clone, Copy, Debug, PartialEq, Eq)]
 pub enum Verdict {
     Pass,
     Fail,
@@ -32,53 +32,46 @@ pub enum Verdict {
     Error,
 }
 
+// A number that is no verdict's.
+#[derive(Clone, Copy, Debug, PartialEq, Eq)]
+pub struct NoVerdict(pub u8);
+
+impl From<Verdict> for u8 {
+    ghost from_gives = { λ v n. n ≡ verdict_number v };
+
+    fn from(v: Verdict) -> u8 {
+        match v {
+            Verdict::Pass => 1,
+            Verdict::Fail => 2,
+            Verdict::Skipped => 3,
+            Verdict::Error => 4,
+        }
+    }
+}
+
+impl TryFrom<u8> for Verdict {
+    type Error = NoVerdict;
+
+    ghost try_from_gives = { Names };
+
+    fn try_from(x: u8) -> Result<Self, NoVerdict> {
+        match x {
+            1 => Ok(Verdict::Pass),
+            2 => Ok(Verdict::Fail),
+            3 => Ok(Verdict::Skipped),
+            4 => Ok(Verdict::Error),
+            _ => Err(NoVerdict(x)),
+        }
+    }
+}
+
 // What a record says. The name has `length` bytes and stands in the record from NAME on.
-#[derive(Clone, Copy, Drop)]
+#[derive(Clone, Copy, Debug, PartialEq, Eq)]
 pub struct Entry {
     pub verdict: Verdict,
     pub chapter: u8,
     pub year: u16,
     pub length: usize,
-}
-
-#[derive(Clone, Copy, Drop)]
-pub enum Reading {
-    Good(Entry),
-    Bad,
-}
-
-pub fn number(v: Verdict) -> u8
-    ensures { result ≡ verdict_number v }
-{
-    match v {
-        Verdict::Pass => 1,
-        Verdict::Fail => 2,
-        Verdict::Skipped => 3,
-        Verdict::Error => 4,
-    }
-}
-
-// Whether a byte is the number of a verdict.
-pub fn is_verdict(x: u8) -> bool
-    ensures { result ≡ is_verdict x }
-{
-    (1 <= x) & (x <= 4)
-}
-
-// The verdict of a number from 1 to 4.
-pub fn verdict_of(x: u8) -> Verdict
-    ensures { result ≡ verdict_of x }
-{
-    if x == 1 {
-        return Verdict::Pass;
-    }
-    if x == 2 {
-        return Verdict::Fail;
-    }
-    if x == 3 {
-        return Verdict::Skipped;
-    }
-    Verdict::Error
 }
 
 // Whether zeros follow a name of `len` bytes.
@@ -90,30 +83,32 @@ fn is_padded(name: &[u8], len: usize) -> bool
 }
 
 // What a record of the right length says, if it is good.
-fn read_whole(record: &[u8]) -> Reading
+fn read_whole(record: &[u8]) -> Option<Entry>
     requires { length «record».now ≡ record_len }
     ensures { result ≡ reading_of «record».now }
 {
+    let Ok(verdict) = Verdict::try_from(record[VERDICT]) else {
+        return None;
+    };
     let length = bytes::before(&record[NAME..], 0);
-    let good = is_verdict(record[VERDICT])
-        & (record[CHAPTER] <= MOST_CHAPTER)
-        & is_padded(&record[NAME..], length);
+    let good = (record[CHAPTER] <= MOST_CHAPTER) & is_padded(&record[NAME..], length);
     if !good {
-        return Reading::Bad;
+        return None;
     }
-    Reading::Good(Entry {
-        verdict: verdict_of(record[VERDICT]),
+    Some(Entry {
+        verdict,
         chapter: record[CHAPTER],
         year: words::get16(record, YEAR),
         length,
     })
 }
 
-pub fn read(record: &[u8]) -> Reading
+// What a record says; None where it is bad.
+pub fn read(record: &[u8]) -> Option<Entry>
     ensures { result ≡ reading_of «record».now }
 {
     if record.len() != Sizes::RECORD {
-        return Reading::Bad;
+        return None;
     }
     read_whole(record)
 }
@@ -130,7 +125,7 @@ fn head_bytes(verdict: Verdict, chapter: u8, year: u16) -> [u8; NAME]
     ensures { result ≡ head_of verdict chapter year }
 {
     [
-        number(verdict),
+        u8::from(verdict),
         chapter,
         (year % 256) as u8,
         (year / 256 % 256) as u8,
