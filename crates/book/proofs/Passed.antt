@@ -18,7 +18,6 @@ use Rattle.desk.specs.Readers.{sizes_of}
 use Rattle.desk.specs.Good.{good_desk}
 use Rattle.desk.proofs.Known.{Known, known}
 use Rattle.verdicts.specs.declared.counts.Row.{Row}
-use Rattle.verdicts.specs.declared.counts.Row.TheVariants.{Refused}
 use Rattle.verdicts.specs.Cells.{no_counts}
 use Rattle.book.specs.MatrixRow.{range_good, row_rows, row_checked, ran, row_from, rowed, ended, row_by, row_of}
 
@@ -60,11 +59,11 @@ module _ (desk tree : List ℕ) (chapter first end : ℕ) (draws : List ℕ) whe
   by-checks : {o : Result Unit Refusal} → row_checked desk tree first end draws ≡ o → row_by o desk tree chapter first end draws ≡ row_of desk tree chapter first end draws
   by-checks h = ap (λ (x : Result Unit Refusal). row_by x desk tree chapter first end draws) (sym h)
 
-  pub row-refused : {q : Refusal} → row_checked desk tree first end draws ≡ Err q → rowed (Refused q) desk tree ≡ row_of desk tree chapter first end draws
+  pub row-refused : {q : Refusal} → row_checked desk tree first end draws ≡ Err q → rowed (Err q) desk tree ≡ row_of desk tree chapter first end draws
   row-refused h = by-checks h
 
   pub row_done : row_checked desk tree first end draws ≡ Ok tt → {path buffer : List ℕ} → path ≡ zeros (path_len (sizes_of desk)) → buffer ≡ zeros record_len
-      → {a : Row} {d t p b : List ℕ} → ran a d t p b ≡ row_from chapter (end - first) first draws no_counts desk tree path buffer
+      → {a : Result Row Refusal} {d t p b : List ℕ} → ran a d t p b ≡ row_from chapter (end - first) first draws no_counts desk tree path buffer
       → rowed a d t ≡ row_of desk tree chapter first end draws
   row_done h e f k =
       ap ended (k ∙ ap₂ (λ (p b : List ℕ). row_from chapter (end - first) first draws no_counts desk tree p b) e f) ∙ by-checks h

@@ -1,4 +1,5 @@
 -- The reads of a row, turn by turn: what is left to do from here comes to what the whole row is. Assumes nothing.
+use Rattle.verdicts.specs.Cells.{counted}
 use Rattle.std.specs.Prelude.{Err, Ok, Result}
 use Prim.Native.Nat.{ℕ, suc, ◌+◌, ◌-◌, ◌≤◌, ◌<◌}
 use mathlib.Core.Path.{◌≡◌, sym, ap, ap₂, ◌∙◌}
@@ -9,7 +10,6 @@ use lib.Seq.{drop-cons}
 use Rattle.sizes.specs.declared.Refusal.{Refusal}
 use Rattle.verdicts.specs.declared.counts.Cell.{Cell}
 use Rattle.verdicts.specs.declared.counts.Counts.{Counts}
-use Rattle.verdicts.specs.declared.counts.Row.TheVariants.{Refused}
 use Rattle.verdicts.specs.Cells.{no_counts, plus, sum}
 use Rattle.book.specs.MatrixRow.{ReadResult, looked, read_of, RunResult, ran, counted_of, going_on, row_from}
 use Rattle.verdicts.proofs.Counting.{sum-plus}
@@ -65,7 +65,7 @@ module _ (chapter first end : ℕ) (draws : List ℕ) where
 
       -- the store refused: the row is over
       pub found-refusal : {f : Result Cell Refusal} {q : Refusal} → looked f d t p b ≡ read_of chapter desk tree path buffer id (get_or draws (id - first) 0)
-          → f ≡ Err q → ran (Refused q) d t p b ≡ whole
+          → f ≡ Err q → ran (Err q) d t p b ≡ whole
       found-refusal h g = ap onward (ap (λ (x : Result Cell Refusal). looked x d t p b) (sym g) ∙ h) ∙ read_next l e
 
     -- every id was read

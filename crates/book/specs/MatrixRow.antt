@@ -1,5 +1,6 @@
 -- A matrix row: a chapter's counts over the ids from a first up to, not including, an end, read through the store. What it answers, and what desk and
 -- tree then hold, on every input. Assumes nothing.
+use Rattle.verdicts.specs.Cells.{counted}
 use Rattle.std.specs.Prelude.{ℕ, suc, ◌+◌, ◌-◌, Bool, not, ◌&&◌, List, [], ◌∷◌, length, leb, ltb, eqb, Err, Ok, Result}
 use Rattle.words.specs.Bytes.{zeros}
 use Rattle.sizes.specs.declared.Refusal.{Refusal}
@@ -15,7 +16,6 @@ use Rattle.requests.specs.Request.{RequestResult, request_of}
 use Rattle.verdicts.specs.declared.counts.Cell.{Cell}
 use Rattle.verdicts.specs.declared.counts.Counts.{Counts}
 use Rattle.verdicts.specs.declared.counts.Row.{Row}
-use Rattle.verdicts.specs.declared.counts.Row.TheVariants.{Refused, Counted}
 use Rattle.verdicts.specs.Cells.{found_of, no_counts, plus}
 
 -- ---- the refusals before any ask, in order
@@ -60,23 +60,23 @@ read_of chapter desk tree path buffer id draw = looked_by chapter (request_of de
 -- ---- the ids from `id` on, rising, one draw each; n is the range's length
 
 pub record RunResult : Type 0 where
-  pub answer : Row
+  pub answer : Result Row Refusal
   pub desk : List ℕ
   pub tree : List ℕ
   pub path : List ℕ
   pub buffer : List ℕ
 
-abbrev pub ran : Row → List ℕ → List ℕ → List ℕ → List ℕ → RunResult
+abbrev pub ran : Result Row Refusal → List ℕ → List ℕ → List ℕ → List ℕ → RunResult
 ran a d t p b = record { answer = a; desk = d; tree = t; path = p; buffer = b }
 
 -- a row is complete exactly if all have passed
-abbrev pub counted_of : ℕ → Counts → Row
-counted_of n c = Counted c (eqb c.passed n)
+abbrev pub counted_of : ℕ → Counts → Result Row Refusal
+counted_of n c = counted c (eqb c.passed n)
 
 -- a store's refusal ends the row
 abbrev pub going_on : ReadResult → (Cell → RunResult) → Result Cell Refusal → RunResult
 going_on r more (Ok cell) = more cell
-going_on r more (Err q) = ran (Refused q) r.desk r.tree r.path r.buffer
+going_on r more (Err q) = ran (Err q) r.desk r.tree r.path r.buffer
 
 unfoldable pub row_from : ℕ → ℕ → ℕ → List ℕ → Counts → List ℕ → List ℕ → List ℕ → List ℕ → RunResult
 row_from chapter n id [] c desk tree path buffer = ran (counted_of n c) desk tree path buffer
@@ -87,18 +87,18 @@ row_from chapter n id (x ∷ xs) c desk tree path buffer =
 -- ---- the row: path and record begin as zeros
 
 pub record RowResult : Type 0 where
-  pub answer : Row
+  pub answer : Result Row Refusal
   pub desk : List ℕ
   pub tree : List ℕ
 
-abbrev pub rowed : Row → List ℕ → List ℕ → RowResult
+abbrev pub rowed : Result Row Refusal → List ℕ → List ℕ → RowResult
 rowed a d t = record { answer = a; desk = d; tree = t }
 
 abbrev pub ended : RunResult → RowResult
 ended r = rowed r.answer r.desk r.tree
 
 abbrev pub row_by : Result Unit Refusal → List ℕ → List ℕ → ℕ → ℕ → ℕ → List ℕ → RowResult
-row_by (Err q) desk tree chapter first end draws = rowed (Refused q) desk tree
+row_by (Err q) desk tree chapter first end draws = rowed (Err q) desk tree
 row_by (Ok tt) desk tree chapter first end draws =
     ended (row_from chapter (end - first) first draws no_counts desk tree (zeros (path_len (sizes_of desk))) (zeros record_len))
 

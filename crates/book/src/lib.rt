@@ -6,29 +6,34 @@ ghost use Rattle.verdicts.specs.Cells.{no_counts};
 ghost use Rattle.book.specs.MatrixRow.{row_checked, looked, read_of, ran, row_from, rowed, row_of};
 
 use desk::Kind;
-use requests::Answered;
-use sizes::{Outcome, Refusal, Sizes};
+use sizes::{Refusal, Sizes};
 use verdicts::counts;
-use verdicts::counts::{Counts, Found, Row};
+use verdicts::counts::{Cell, Counts, Row};
 
 // The refusals of a row before any ask, in order.
-pub fn row_checked(desk: &[u8], tree: &[u8], first: u16, end: u16, draws: &[u16]) -> Outcome
+pub fn row_checked(
+    desk: &[u8],
+    tree: &[u8],
+    first: u16,
+    end: u16,
+    draws: &[u16],
+) -> Result<(), Refusal>
     ensures { result ≡ row_checked desk.now tree.now first end draws.now }
 {
     if !desk::good(desk) {
-        return Outcome::Refused(Refusal::BadDesk);
+        return Err(Refusal::BadDesk);
     }
     let n = desk::shape_of(desk).n;
     let range_good = (1 <= first) & (first < end) & (end as usize <= n + 1);
     if !range_good {
-        return Outcome::Refused(Refusal::BadId);
+        return Err(Refusal::BadId);
     }
     let fit = (draws.len() == (end - first) as usize)
         & (tree.len() == desk::sizes_of(desk).tree_len());
     if !fit {
-        return Outcome::Refused(Refusal::BadLength);
+        return Err(Refusal::BadLength);
     }
-    Outcome::Done
+    Ok(())
 }
 
 // A read of one id through the store.
@@ -40,13 +45,11 @@ fn read_one(
     chapter: u8,
     id: u16,
     draw: u16,
-) -> Found
+) -> Result<Cell, Refusal>
     ensures { looked result desk.new tree.new path.new «record».new ≡ read_of chapter desk.old tree.old path.old «record».old id draw }
 {
-    match requests::request(desk, tree, path, record, Kind::Read, id, draw) {
-        Answered::Refused(q) => Found::Refused(q),
-        Answered::Asked { leaf: _, finished } => counts::found_by(chapter, finished, record),
-    }
+    let (_, finished) = requests::request(desk, tree, path, record, Kind::Read, id, draw)?;
+    counts::found_by(chapter, finished, record)
 }
 
 // The reads of a range, ids rising, one draw each.
@@ -59,24 +62,20 @@ fn read_all(
     first: u16,
     end: u16,
     draws: &[u16],
-) -> Row
+) -> Result<Row, Refusal>
     requires { (first ≤ end) × (length draws.now ≡ end - first) }
     ensures { ran result desk.new tree.new path.new «record».new ≡ row_from chapter (end - first) first draws.now no_counts desk.old tree.old path.old «record».old }
 {
     let mut counts = Counts::NONE;
-    let mut id = first;
-    while id < end {
+    for id in first..end {
         let draw = draws[(id - first) as usize];
-        match read_one(desk, tree, path, record, chapter, id, draw) {
-            Found::Refused(q) => return Row::Refused(q),
-            Found::Cell(cell) => counts = counts.plus(cell),
-        }
-        id += 1;
+        let cell = read_one(desk, tree, path, record, chapter, id, draw)?;
+        counts = counts.plus(cell);
     }
-    Row::Counted {
+    Ok(Row {
         counts,
         complete: counts.passed == end - first,
-    }
+    })
 }
 
 // A chapter's row over the ids from `first` up to, not including, `end`, with one draw for each.
@@ -87,25 +86,21 @@ pub fn row(
     first: u16,
     end: u16,
     draws: &[u16],
-) -> Row
+) -> Result<Row, Refusal>
     ensures { rowed result desk.new tree.new ≡ row_of desk.old tree.old chapter first end draws.now }
 {
-    match row_checked(desk, tree, first, end, draws) {
-        Outcome::Refused(q) => Row::Refused(q),
-        Outcome::Done => {
-            let n = desk::sizes_of(desk).path_len();
-            let mut path = [0u8; Sizes::MOST_PATH];
-            let mut record = [0u8; Sizes::RECORD];
-            read_all(
-                desk,
-                tree,
-                &mut path[..n],
-                &mut record,
-                chapter,
-                first,
-                end,
-                draws,
-            )
-        }
-    }
+    row_checked(desk, tree, first, end, draws)?;
+    let n = desk::sizes_of(desk).path_len();
+    let mut path = [0u8; Sizes::MOST_PATH];
+    let mut record = [0u8; Sizes::RECORD];
+    read_all(
+        desk,
+        tree,
+        &mut path[..n],
+        &mut record,
+        chapter,
+        first,
+        end,
+        draws,
+    )
 }

@@ -1,5 +1,7 @@
 -- What the verdict book's functions answer, by what was read, made and counted. Assumes nothing.
-use Rattle.std.specs.Prelude.{None, Option, Some}
+use Rattle.verdicts.specs.Cells.{counted}
+use Rattle.sizes.specs.declared.Refusal.{Refusal}
+use Rattle.std.specs.Prelude.{None, Option, Some, Err, Result}
 use Prim.Native.Nat.{ℕ, ◌^◌, ◌<◌}
 use mathlib.Core.Path.{◌≡◌, sym, ap, ◌∙◌}
 use mathlib.Core.Bool.{true, false}
@@ -10,7 +12,6 @@ use mir.Val.{to_z, of_z}
 use mir.Facts.{to_z_pos}
 use Rattle.verdicts.specs.declared.Entry.{Entry}
 use Rattle.verdicts.specs.declared.counts.Row.{Row}
-use Rattle.verdicts.specs.declared.counts.Row.TheVariants.{Refused, Counted}
 use Rattle.verdicts.specs.Verdict.{verdict_number, is_verdict, verdict_of, MakeResult, making, make_of}
 use Rattle.exports.specs.Codes.{Answered}
 use Rattle.exports.specs.BookCodes.{no_verdict, reading_code, said_of, said_or, made_of, made_code, row_code}
@@ -65,8 +66,8 @@ module _ (verdict : ℕ) {due : MakeResult} {b : List ℕ} where
 
 -- ---- a row: its number fits, so that it is read back as it was
 
-pub row_back : (r : Row) {z : ℤ} → z ≡ row_code r → to_z w32 (of_z w32 z) ≡ row_code r
+pub row_back : (r : Result Row Refusal) {z : ℤ} → z ≡ row_code r → to_z w32 (of_z w32 z) ≡ row_code r
 unfolding row_code
-row_back (Refused q) e = code-back q e
-row_back (Counted c true) e = ap (λ (z : ℤ). to_z w32 (of_z w32 z)) e
-row_back (Counted c false) e = ap (λ (z : ℤ). to_z w32 (of_z w32 z)) e
+row_back (Err q) e = code-back q e
+row_back (counted c true) e = ap (λ (z : ℤ). to_z w32 (of_z w32 z)) e
+row_back (counted c false) e = ap (λ (z : ℤ). to_z w32 (of_z w32 z)) e

@@ -1,9 +1,10 @@
 -- The numbers that the C interface of the verdict book answers with, and what it hands out beside them. Assumes nothing.
-use Rattle.std.specs.Prelude.{ℕ, ◌≡◌, Bool, true, false, cond, List, [], ◌∷◌, ℤ, pos, None, Option, Some}
+use Rattle.verdicts.specs.Cells.{counted}
+use Rattle.sizes.specs.declared.Refusal.{Refusal}
+use Rattle.std.specs.Prelude.{ℕ, ◌≡◌, Bool, true, false, cond, List, [], ◌∷◌, ℤ, pos, None, Option, Some, Err, Result}
 use Rattle.verdicts.specs.declared.Entry.{Entry}
 use Rattle.verdicts.specs.declared.counts.Counts.{Counts}
 use Rattle.verdicts.specs.declared.counts.Row.{Row}
-use Rattle.verdicts.specs.declared.counts.Row.TheVariants.{Refused, Counted}
 use Rattle.verdicts.specs.Verdict.{verdict_number, is_verdict, verdict_of, MakeResult, making, make_of}
 use Rattle.book.specs.MatrixRow.{RowResult}
 use Rattle.exports.specs.Codes.{refusal_code}
@@ -43,19 +44,18 @@ complete_code = 1
 abbrev pub incomplete_code : ℕ
 incomplete_code = 2
 
-unfoldable pub row_code : Row → ℤ
-row_code (Refused r) = refusal_code r
-row_code (Counted c true) = pos complete_code
-row_code (Counted c false) = pos incomplete_code
+unfoldable pub row_code : Result Row Refusal → ℤ
+row_code (Err r) = refusal_code r
+row_code (Ok row) = pos (cond row.complete complete_code incomplete_code)
 
 -- the six counts, in this order
 abbrev pub six_of : Counts → List ℕ
 six_of c = c.passed ∷ c.failed ∷ c.skipped ∷ c.errors ∷ c.bad ∷ c.not_run ∷ []
 
 -- beside a refusal there are none: what was lent stays
-unfoldable pub counts_or : Row → List ℕ → List ℕ
-counts_or (Refused r) lent = lent
-counts_or (Counted c complete) lent = six_of c
+unfoldable pub counts_or : Result Row Refusal → List ℕ → List ℕ
+counts_or (Err r) lent = lent
+counts_or (Ok row) lent = six_of row.counts
 
 -- a row's number, and what desk, tree and the counts, which were lent as `lent`, then hold
 pub record RowAnswers (number : ℤ) (desk tree counts lent : List ℕ) (due : RowResult) : Type 0 where

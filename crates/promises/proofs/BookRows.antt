@@ -1,5 +1,6 @@
 -- Rows of the verdict book, on every input: the counts add up to the range's length, a refusal before any ask changes nothing, and no read is answered
 -- by Done. Assumes nothing.
+use Rattle.verdicts.specs.Cells.{counted}
 use Rattle.std.specs.Prelude.{Err, Ok, Result}
 use Prim.Native.Nat.{ℕ, suc, ◌+◌, ◌-◌}
 use mathlib.Core.Path.{◌≡◌, refl, sym, ap, ◌∙◌}
@@ -28,7 +29,6 @@ use Rattle.requests.specs.Request.{finished_by, asked_for, request_of}
 use Rattle.verdicts.specs.declared.counts.Cell.{Cell}
 use Rattle.verdicts.specs.declared.counts.Counts.{Counts}
 use Rattle.verdicts.specs.declared.counts.Row.{Row}
-use Rattle.verdicts.specs.declared.counts.Row.TheVariants.{Refused, Counted}
 use Rattle.verdicts.specs.Cells.{no_counts, plus, sum}
 use Rattle.book.specs.MatrixRow.{ReadResult, RunResult, read_of, counted_of, going_on, row_from, row_checked, row_by, row_of}
 use Rattle.verdicts.proofs.Counting.{sum-plus}
@@ -38,7 +38,7 @@ use Rattle.promises.proofs.Answers.{asked_leaf}
 
 -- ---- a row that is counted was refused by nothing
 
-pub not-counted : (q : Refusal) (c : Counts) (complete : Bool) → Refused q ≡ Counted c complete → ⊥
+pub not-counted : (q : Refusal) (c : Counts) (complete : Bool) → Err q ≡ counted c complete → ⊥
 not-counted q c complete h = let z : ◌≡◌ {A = ℕ} 0 1 = cc in omega arith
 
 -- the run over the range, as a row begins it
@@ -47,20 +47,20 @@ run_of desk tree chapter first end draws =
     row_from chapter (end - first) first draws no_counts desk tree (zeros (path_len (sizes_of desk))) (zeros record_len)
 
 pub was-done : (desk tree : List ℕ) (chapter first end : ℕ) (draws : List ℕ) (c : Counts) (complete : Bool)
-    → (row_of desk tree chapter first end draws).answer ≡ Counted c complete
-    → (row_checked desk tree first end draws ≡ Ok tt) × ((run_of desk tree chapter first end draws).answer ≡ Counted c complete)
+    → (row_of desk tree chapter first end draws).answer ≡ counted c complete
+    → (row_checked desk tree first end draws ≡ Ok tt) × ((run_of desk tree chapter first end draws).answer ≡ counted c complete)
 was-done desk tree chapter first end draws c complete h = go (row_checked desk tree first end draws) refl
   where
     go : (o : Result Unit Refusal) → row_checked desk tree first end draws ≡ o
-        → (row_checked desk tree first end draws ≡ Ok tt) × ((run_of desk tree chapter first end draws).answer ≡ Counted c complete)
+        → (row_checked desk tree first end draws ≡ Ok tt) × ((run_of desk tree chapter first end draws).answer ≡ counted c complete)
     go (Ok tt) e = (e, sym (ap (λ (x : Result Unit Refusal). (row_by x desk tree chapter first end draws).answer) e) ∙ h)
     go (Err q) e =
         absurd (not-counted q c complete (sym (ap (λ (x : Result Unit Refusal). (row_by x desk tree chapter first end draws).answer) e) ∙ h))
 
 -- ---- the run: each draw adds one to one of the counts, and complete is the test at its end
 
-abbrev Adds : ℕ → Counts → List ℕ → Row → Type 0
-Adds n c xs a = (c' : Counts) (complete : Bool) → a ≡ Counted c' complete → (sum c' ≡ sum c + length xs) × (complete ≡ eqb c'.passed n)
+abbrev Adds : ℕ → Counts → List ℕ → Result Row Refusal → Type 0
+Adds n c xs a = (c' : Counts) (complete : Bool) → a ≡ counted c' complete → (sum c' ≡ sum c + length xs) × (complete ≡ eqb c'.passed n)
 
 adds_none : (n : ℕ) (c : Counts) → Adds n c [] (counted_of n c)
 adds_none n c c' complete h =

@@ -1,4 +1,5 @@
 -- Rows of the verdict book over a server that returns what was last written: they are the plain table's own rows, and leave the table. Assumes nothing.
+use Rattle.verdicts.specs.Cells.{counted}
 use Rattle.std.specs.Prelude.{Err, Ok, Result}
 use Rattle.sizes.specs.declared.Refusal.{Refusal}
 use Prim.Native.Nat.{ℕ, suc, ◌+◌, ◌-◌, ◌<◌, ◌≤◌}
@@ -16,7 +17,6 @@ use Rattle.items.specs.Real.{real}
 use Rattle.keeping.specs.Table.{Table}
 use Rattle.verdicts.specs.declared.counts.Cell.{Cell}
 use Rattle.verdicts.specs.declared.counts.Counts.{Counts}
-use Rattle.verdicts.specs.declared.counts.Row.TheVariants.{Refused, Counted}
 use Rattle.verdicts.specs.Cells.{no_counts, plus}
 use Rattle.book.specs.MatrixRow.{ReadResult, RunResult, read_of, going_on, row_from, row_checked, row_by}
 use Rattle.book.proofs.Passed.{row-passed}
@@ -37,8 +37,8 @@ module _ (b : Start) (byte : b.room < 256) (table : Table) where
   module _ (chapter n first m : ℕ) where
     record RunIs (r : RunResult) : Type 0 where
       stands : Stands b table r.desk r.tree
-      counted : (c : Counts) (complete : Bool) → r.answer ≡ Counted c complete → c ≡ table_counts chapter table first m
-      not_forged : r.answer ≢ Refused Forged
+      counted : (c : Counts) (complete : Bool) → r.answer ≡ counted c complete → c ≡ table_counts chapter table first m
+      not_forged : r.answer ≢ Err Forged
 
     run_on : (id : ℕ) (r : ReadResult) (more : Cell → RunResult) → ReadIs b table chapter id r
         → ((cell : Cell) → cell ≡ table_cell chapter (table id) → RunIs (more cell)) → (f : Result Cell Refusal) → r.found ≡ f → RunIs (going_on r more f)
@@ -85,11 +85,11 @@ module _ (b : Start) (byte : b.room < 256) (ts : TreeState) (reached : TreeReach
       record { after = s.at; reached = s.reached; desk_is = s.desk_is; tree_is = s.tree_is; table_is = s.table_is }
 
   forged-not : (o : Result Unit Refusal) → row_checked ts.state.desk ts.tree first end draws ≡ o
-      → (row_by o ts.state.desk ts.tree chapter first end draws).answer ≢ Refused Forged
+      → (row_by o ts.state.desk ts.tree chapter first end draws).answer ≢ Err Forged
   forged-not (Err q) e h = row_low ts.state.desk ts.tree first end draws q e (let k : q ≡ Forged = cc in k)
   forged-not (Ok tt) e h = run.not_forged h
 
-  module _ (c : Counts) (complete : Bool) (h : (row_in ts chapter first end draws).answer ≡ Counted c complete) where
+  module _ (c : Counts) (complete : Bool) (h : (row_in ts chapter first end draws).answer ≡ counted c complete) where
     counts-table : CountsTable ts chapter first end c complete
     counts-table =
         let w = was-done ts.state.desk ts.tree chapter first end draws c complete h in

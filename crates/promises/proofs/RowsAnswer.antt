@@ -1,5 +1,6 @@
 -- Rows over a server that returns what was last written, from a ready desk, with leaves drawn: once its own checks are passed a row is counted, or ends as a
 -- run of requests does. Assumes nothing.
+use Rattle.verdicts.specs.Cells.{counted}
 use Rattle.std.specs.Prelude.{Err, Ok, Result}
 use Prim.Native.Nat.{ℕ, suc, ◌+◌, ◌-◌, ◌<◌, ◌≤◌}
 use mathlib.Core.Path.{◌≡◌, refl, sym, ap, ◌∙◌}
@@ -18,7 +19,6 @@ use Rattle.requests.specs.Request.{Answered}
 use Rattle.requests.specs.Request.{request_of}
 use Rattle.verdicts.specs.declared.counts.Cell.{Cell}
 use Rattle.verdicts.specs.declared.counts.Counts.{Counts}
-use Rattle.verdicts.specs.declared.counts.Row.TheVariants.{Refused}
 use Rattle.verdicts.specs.Cells.{plus, no_counts}
 use Rattle.book.specs.MatrixRow.{ReadResult, RunResult, found_by, read_of, going_on, row_from, row_by}
 use Rattle.book.proofs.Passed.{row-passed}
@@ -64,13 +64,13 @@ module _ (b : Start) (byte : b.room < 256) where
   -- ---- a run of reads
 
   run_on : (r : ReadResult) (more : Cell → RunResult) (q : Refusal) → ReadEnds r
-      → ((cell : Cell) → Goes b byte r.desk r.tree r.path × (length r.buffer ≡ record_len) → (more cell).answer ≡ Refused q → Ends b q)
-      → (f : Result Cell Refusal) → r.found ≡ f → (going_on r more f).answer ≡ Refused q → Ends b q
+      → ((cell : Cell) → Goes b byte r.desk r.tree r.path × (length r.buffer ≡ record_len) → (more cell).answer ≡ Err q → Ends b q)
+      → (f : Result Cell Refusal) → r.found ≡ f → (going_on r more f).answer ≡ Err q → Ends b q
   run_on r more q w ih (Ok cell) e h = ih cell (w.goes cell e) h
   run_on r more q w ih (Err s) e h = w.ends q (e ∙ ap Err (let k : s ≡ q = cc in k))
 
   run_ends : (chapter n id : ℕ) (xs : List ℕ) (c : Counts) (desk tree path buffer : List ℕ) → Goes b byte desk tree path → length buffer ≡ record_len → 1 ≤ id
-      → id + length xs ≤ b.ids + 1 → AllLeaves b xs → (q : Refusal) → (row_from chapter n id xs c desk tree path buffer).answer ≡ Refused q → Ends b q
+      → id + length xs ≤ b.ids + 1 → AllLeaves b xs → (q : Refusal) → (row_from chapter n id xs c desk tree path buffer).answer ≡ Err q → Ends b q
   unfolding row_from
   run_ends chapter n id [] c desk tree path buffer g long low high all q h = absurd (not-counted q _ _ (sym h))
   run_ends chapter n id (x ∷ xs) c desk tree path buffer g long low high all q h =
@@ -84,7 +84,7 @@ module _ (b : Start) (byte : b.room < 256) where
 -- ---- the row
 
 module _ (b : Start) (byte : b.room < 256) (ts : TreeState) (reached : TreeReached (ours real) b ts) (chapter first end : ℕ) (draws : List ℕ)
-    (o : MayBegin b ts first end draws) (q : Refusal) (h : (row_in ts chapter first end draws).answer ≡ Refused q) where
+    (o : MayBegin b ts first end draws) (q : Refusal) (h : (row_in ts chapter first end draws).answer ≡ Err q) where
   pub row_ends : Ends b q
   row_ends =
       run_ends b byte chapter (end - first) first draws no_counts ts.state.desk ts.tree (zeros (path_len (sizes_of ts.state.desk))) (zeros record_len)

@@ -1,4 +1,5 @@
 -- A row shows what requests of its range would show in some surroundings; one that is counted has asked for each id of the range. Assumes nothing.
+use Rattle.verdicts.specs.Cells.{counted}
 use Rattle.std.specs.Prelude.{Err, Ok, Result}
 use Rattle.sizes.specs.declared.Refusal.{Refusal}
 use Prim.Native.Nat.{ℕ, suc, ◌-◌}
@@ -17,7 +18,6 @@ use Rattle.requests.specs.Request.{requested, request_of}
 use Rattle.verdicts.specs.declared.counts.Cell.{Cell}
 use Rattle.verdicts.specs.declared.counts.Cell.TheVariants.{Bad, NotRun}
 use Rattle.verdicts.specs.declared.counts.Counts.{Counts}
-use Rattle.verdicts.specs.declared.counts.Row.TheVariants.{Counted}
 use Rattle.verdicts.specs.Cells.{record_cell, no_counts, plus}
 use Rattle.book.specs.MatrixRow.{ReadResult, RunResult, found_by, looked_by, read_of, going_on, row_from, row_checked, row_by, row_of}
 use Rattle.book.proofs.Passed.{row-passed}
@@ -86,7 +86,7 @@ module _ (desk tree : List ℕ) (chapter first end : ℕ) (us xs : List ℕ) (mo
 -- ---- a counted row asked for each
 
 all_asked : (chapter : ℕ) (a : Answered) (r : ReadResult) (more : Cell → RunResult) (b rest : List ℕ) (n : ℕ) (c : Counts) (complete : Bool)
-    → ((cell : Cell) → (more cell).answer ≡ Counted c complete → length rest ≡ n) → (going_on r more (found_by chapter a b)).answer ≡ Counted c complete
+    → ((cell : Cell) → (more cell).answer ≡ counted c complete → length rest ≡ n) → (going_on r more (found_by chapter a b)).answer ≡ counted c complete
     → length (leaf_asked a rest) ≡ suc n
 all_asked chapter (Err q) r more b rest n c complete f h = absurd (not-counted q c complete h)
 all_asked chapter (Ok (p, Ok finished.Record)) r more b rest n c complete f h = ap suc (f (record_cell chapter b) h)
@@ -95,7 +95,7 @@ all_asked chapter (Ok (p, Ok finished.Done)) r more b rest n c complete f h = ap
 all_asked chapter (Ok (p, Err q)) r more b rest n c complete f h = absurd (not-counted q c complete h)
 
 reads_all : (chapter n id : ℕ) (xs : List ℕ) (c : Counts) (desk tree path buffer : List ℕ) (c' : Counts) (complete : Bool)
-    → (row_from chapter n id xs c desk tree path buffer).answer ≡ Counted c' complete → length (reads_show id xs desk tree path buffer) ≡ length xs
+    → (row_from chapter n id xs c desk tree path buffer).answer ≡ counted c' complete → length (reads_show id xs desk tree path buffer) ≡ length xs
 unfolding reads_show row_from read_of
 reads_all chapter n id [] c desk tree path buffer c' complete h = refl
 reads_all chapter n id (x ∷ xs) c desk tree path buffer c' complete h =
@@ -107,7 +107,7 @@ reads_all chapter n id (x ∷ xs) c desk tree path buffer c' complete h =
     h
 
 pub each-asked : (desk tree : List ℕ) (chapter first end : ℕ) (draws : List ℕ) (c : Counts) (complete : Bool)
-    → (row_of desk tree chapter first end draws).answer ≡ Counted c complete → length (row_shows desk tree first end draws) ≡ end - first
+    → (row_of desk tree chapter first end draws).answer ≡ counted c complete → length (row_shows desk tree first end draws) ≡ end - first
 each-asked desk tree chapter first end draws c complete h =
     let w = was-done desk tree chapter first end draws c complete h in
     ap (λ (o : Result Unit Refusal). length (row_shows_by o desk tree first draws)) w.0

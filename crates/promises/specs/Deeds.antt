@@ -1,5 +1,6 @@
 -- Demand 3 with rows of the verdict book and texts of TAP among the requests: each asks for the leaves of its range, one after the other, whatever it
 -- finds there and whatever the text says. Assumes nothing.
+use Rattle.verdicts.specs.Cells.{counted}
 use Rattle.sizes.specs.declared.Refusal.{Refusal}
 use Rattle.std.specs.Prelude.{ℕ, suc, ◌+◌, ◌-◌, ◌<◌, ◌≡◌, Bool, List, [], ◌∷◌, ◌++◌, length, get_or, take, drop, Err, Ok, Result}
 use Rattle.words.specs.Bytes.{splice, zeros}
@@ -12,7 +13,6 @@ use Rattle.requests.specs.Request.{Answered}
 use Rattle.requests.specs.Request.{request_of}
 use Rattle.verdicts.specs.declared.counts.Counts.{Counts}
 use Rattle.verdicts.specs.declared.counts.Row.{Row}
-use Rattle.verdicts.specs.declared.counts.Row.TheVariants.{Refused, Counted}
 use Rattle.book.specs.MatrixRow.{row_checked, row_of}
 use Rattle.sheets.specs.Sheet.{entry_start, entry_at, empty_sheet}
 use Rattle.taking.specs.declared.Text.{Text}
@@ -96,9 +96,9 @@ all_ids [] = []
 all_ids (d ∷ ds) = ids_asked d ++ all_ids ds
 
 -- a run ends at its first refusal, a row's and a text's too
-abbrev pub go_on_row : Row → List ℕ → List ℕ
-go_on_row (Counted c complete) more = more
-go_on_row (Refused q) more = []
+abbrev pub go_on_row : Result Row Refusal → List ℕ → List ℕ
+go_on_row (Ok row) more = more
+go_on_row (Err q) more = []
 
 abbrev pub go_on_taken : Taken → List ℕ → List ℕ
 go_on_taken taken.Done more = more
@@ -146,7 +146,7 @@ pub record ThreeWithDeeds : Type 0 where
       → (j : ℕ) → j < length (deed_leaves n ds draws r) → get_or (deed_leaves n ds draws r) j 0 ≡ get_or draws (get_or (indices n (all_ids ds)) j 0) 0
   -- and a row that is counted has asked for a leaf for each id of its range, whatever it found there and whatever desk and tree are
   pub asks_for_each : (desk tree : List ℕ) (chapter first end : ℕ) (draws : List ℕ) (c : Counts) (complete : Bool)
-      → (row_of desk tree chapter first end draws).answer ≡ Counted c complete → length (row_shows desk tree first end draws) ≡ end - first
+      → (row_of desk tree chapter first end draws).answer ≡ counted c complete → length (row_shows desk tree first end draws) ≡ end - first
   -- so has a text that is read, whatever it says, and one that is written
   pub read_asks_for_each : (desk tree : List ℕ) (chapter year first end : ℕ) (draws text : List ℕ)
       → (read_of desk tree chapter year first end draws text).answer ≡ taken.Done → length (tap_in_shows desk tree chapter year first end draws text) ≡ end - first

@@ -1,4 +1,5 @@
 -- Rows of the verdict book. Over an honest server a row is the plain table's own row; on every input its six counts add up. Assumes nothing.
+use Rattle.verdicts.specs.Cells.{counted}
 use Rattle.std.specs.Prelude.{ℕ, zero, suc, ◌+◌, ◌-◌, ◌<◌, ◌≤◌, ◌≡◌, ◌≢◌, ◌↔◌, ◌⊎◌, Bool, true, false, List, [], ◌∷◌, length, get_or, Err, Ok, Some}
 use Rattle.std.proofs.Math.Option.{Option, none, some}
 use Rattle.sizes.specs.declared.Refusal.{Refusal}
@@ -16,7 +17,6 @@ use Rattle.verdicts.specs.declared.Entry.{Entry}
 use Rattle.verdicts.specs.declared.counts.Cell.{Cell}
 use Rattle.verdicts.specs.declared.counts.Cell.TheVariants.{NotRun}
 use Rattle.verdicts.specs.declared.counts.Counts.{Counts}
-use Rattle.verdicts.specs.declared.counts.Row.TheVariants.{Refused, Counted}
 use Rattle.verdicts.specs.Verdict.{reading_of}
 use Rattle.verdicts.specs.Cells.{record_cell, no_counts, plus, sum}
 use Rattle.book.specs.MatrixRow.{RowResult, row_checked, row_of}
@@ -75,32 +75,32 @@ pub record MayBegin (b : Start) (ts : TreeState) (first end : ℕ) (draws : List
 
 pub record HonestRows : Type 0 where
   pub counts : (b : Start) → b.room < 256 → (ts : TreeState) → TreeReached (ours real) b ts → (chapter first end : ℕ) (draws : List ℕ) (c : Counts) (complete : Bool)
-      → (row_in ts chapter first end draws).answer ≡ Counted c complete → CountsTable ts chapter first end c complete
+      → (row_in ts chapter first end draws).answer ≡ counted c complete → CountsTable ts chapter first end c complete
   pub leaves : (b : Start) → b.room < 256 → (ts : TreeState) → TreeReached (ours real) b ts → (chapter first end : ℕ) (draws : List ℕ)
       → LeavesTable b ts (row_in ts chapter first end draws)
   pub never_forged : (b : Start) → b.room < 256 → (ts : TreeState) → TreeReached (ours real) b ts → (chapter first end : ℕ) (draws : List ℕ)
-      → (row_in ts chapter first end draws).answer ≢ Refused Forged
+      → (row_in ts chapter first end draws).answer ≢ Err Forged
   -- a row that may begin is counted, or it ends as Worn or Full: no other refusal ends it
   pub answers : (b : Start) → b.room < 256 → (ts : TreeState) → TreeReached (ours real) b ts → (chapter first end : ℕ) (draws : List ℕ)
-      → MayBegin b ts first end draws → (q : Refusal) → (row_in ts chapter first end draws).answer ≡ Refused q → (q ≡ Worn) ⊎ (q ≡ Full)
+      → MayBegin b ts first end draws → (q : Refusal) → (row_in ts chapter first end draws).answer ≡ Err q → (q ≡ Worn) ⊎ (q ≡ Full)
   -- where the stash has room for every id, as Worn alone
   pub roomy : (b : Start) → b.room < 256 → b.ids ≤ b.room → (ts : TreeState) → TreeReached (ours real) b ts → (chapter first end : ℕ) (draws : List ℕ)
-      → MayBegin b ts first end draws → (q : Refusal) → (row_in ts chapter first end draws).answer ≡ Refused q → q ≡ Worn
+      → MayBegin b ts first end draws → (q : Refusal) → (row_in ts chapter first end draws).answer ≡ Err q → q ≡ Worn
   -- there are counted rows: on a fresh store, over a tree with any bytes, a row of one id is counted, and its case is not run
   pub first_row : (b : Start) (lent : List ℕ) → Proper b lent → 1 ≤ b.room → (tree : List ℕ) → length tree ≡ tree_len b.sizes
       → (chapter id draw : ℕ) → 1 ≤ id → id ≤ b.ids → AllLeaves b (draw ∷ [])
-      → (row_of (format_for b lent).desk tree chapter id (id + 1) (draw ∷ [])).answer ≡ Counted (plus NotRun no_counts) false
+      → (row_of (format_for b lent).desk tree chapter id (id + 1) (draw ∷ [])).answer ≡ counted (plus NotRun no_counts) false
 
 -- ---- on every input, whatever desk and tree are
 
 pub record AnyRow : Type 0 where
   -- the six counts add up to the range's length, and complete says that all have passed
   pub adds_up : (desk tree : List ℕ) (chapter first end : ℕ) (draws : List ℕ) (c : Counts) (complete : Bool)
-      → (row_of desk tree chapter first end draws).answer ≡ Counted c complete
+      → (row_of desk tree chapter first end draws).answer ≡ counted c complete
       → (sum c ≡ end - first) × ((complete ≡ true) ↔ (c.passed ≡ end - first))
   -- a refusal before any ask changes nothing
   pub refuses : (desk tree : List ℕ) (chapter first end : ℕ) (draws : List ℕ) (q : Refusal) → row_checked desk tree first end draws ≡ Err q
-      → ((row_of desk tree chapter first end draws).answer ≡ Refused q) × ((row_of desk tree chapter first end draws).desk ≡ desk)
+      → ((row_of desk tree chapter first end draws).answer ≡ Err q) × ((row_of desk tree chapter first end draws).desk ≡ desk)
       × ((row_of desk tree chapter first end draws).tree ≡ tree)
   -- a read is never answered by Done: so the column that `found_of` gives to Done stands for no read
   pub never_done : (desk tree path buffer : List ℕ) (id draw p : ℕ) → (request_of desk tree path buffer Read id draw).answer ≢ Ok (p, Ok finished.Done)

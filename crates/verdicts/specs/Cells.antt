@@ -1,6 +1,6 @@
 -- The six columns of a matrix row: which one a case stands in, and counts of them. Assumes nothing.
 use Rattle.sizes.specs.declared.Refusal.{Refusal}
-use Rattle.std.specs.Prelude.{ℕ, ◌+◌, cond, List, eqb, Err, Ok, Result, None, Option, Some}
+use Rattle.std.specs.Prelude.{ℕ, ◌+◌, Bool, cond, List, eqb, Err, Ok, Result, None, Option, Some}
 use Rattle.store.specs.declared.Finished.{Finished}
 use Rattle.store.specs.declared.Finished.TheVariants as finished
 use Rattle.verdicts.specs.declared.Verdict.{Verdict}
@@ -9,6 +9,7 @@ use Rattle.verdicts.specs.declared.Entry.{Entry}
 use Rattle.verdicts.specs.declared.counts.Cell.{Cell}
 use Rattle.verdicts.specs.declared.counts.Cell.TheVariants.{Passed, Failed, Skipped, Errors, Bad, NotRun}
 use Rattle.verdicts.specs.declared.counts.Counts.{Counts}
+use Rattle.verdicts.specs.declared.counts.Row.{Row}
 use Rattle.verdicts.specs.Verdict.{reading_of}
 
 -- ---- which column
@@ -54,6 +55,10 @@ plus Skipped c = counts c.passed c.failed (c.skipped + 1) c.errors c.bad c.not_r
 plus Errors c = counts c.passed c.failed c.skipped (c.errors + 1) c.bad c.not_run
 plus Bad c = counts c.passed c.failed c.skipped c.errors (c.bad + 1) c.not_run
 plus NotRun c = counts c.passed c.failed c.skipped c.errors c.bad (c.not_run + 1)
+
+-- what a row that was read whole answers
+abbrev pub counted : Counts → Bool → Result Row Refusal
+counted c complete = Ok (record { counts = c; complete = complete })
 
 -- all six together
 abbrev pub sum : Counts → ℕ

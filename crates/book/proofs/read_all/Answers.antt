@@ -1,4 +1,5 @@
 -- `book::read_all` meets its contract: at each turn, what is left to do comes to what the whole row is. Assumes nothing.
+use Rattle.std.proofs.lemmas.Result.{err_from_is_err_and}
 use Prim.Native.Nat.{ℕ, ◌+◌, ◌-◌, ◌≤◌, ◌<◌}
 use mathlib.Core.Path.{◌≡◌, refl, ◌∙◌}
 use native.Mathlib.Omega.{arith}
@@ -36,32 +37,16 @@ bounds-draws-id c =
 pub read_one-requires : goal.read_one-requires
 read_one-requires c = tt
 
-pub shape_of-desk-in-Refused : goal.shape_of-desk-in-Refused
-shape_of-desk-in-Refused c = c.read_one.auto.desk ∙ c.loop-id.invariant.1
-
-pub shape_of-tree-in-Refused : goal.shape_of-tree-in-Refused
-shape_of-tree-in-Refused c = c.read_one.auto.tree ∙ c.loop-id.invariant.2
-
-pub shape_of-path-in-Refused : goal.shape_of-path-in-Refused
-shape_of-path-in-Refused c = c.read_one.auto.path ∙ c.loop-id.invariant.3
-
-pub shape_of-record-in-Refused : goal.shape_of-record-in-Refused
-shape_of-record-in-Refused c = c.read_one.auto.record ∙ c.loop-id.invariant.4
-
-pub returns-in-Refused : goal.returns-in-Refused
-returns-in-Refused c =
+pub returns-in_err-cell : goal.returns-in_err-cell
+returns-in_err-cell c =
     let low : c.loop-id.id < c.args.end = omega arith in
-    found-refusal c.args.chapter c.args.first c.args.end c.args.draws.now _ c.loop-id.id c.loop-id.counts c.loop-id.desk c.loop-id.tree c.loop-id.path c.loop-id.«record» c.loop-id.invariant.0 low c.requires.1 c.read_one.ensures c.in-Refused.is
+    let p = err_from_is_err_and c.from_residual.result c.from_residual.ensures.1 in
+    rw (p.1, p.2) (found-refusal c.args.chapter c.args.first c.args.end c.args.draws.now _ c.loop-id.id c.loop-id.counts c.loop-id.desk c.loop-id.tree c.loop-id.path c.loop-id.«record» c.loop-id.invariant.0 low c.requires.1 c.read_one.ensures c.in_err-cell.was)
 
 pub plus-counts-requires : goal.plus-counts-requires
 plus-counts-requires c =
     let low : c.loop-id.id < c.args.end = omega arith in
     few _ _ _ _ low c.loop-id.invariant.0.counted (omega (arith, c.ranges.end))
-
-pub overflow_add-id : goal.overflow_add-id
-overflow_add-id c =
-    let low : c.loop-id.id < c.args.end = omega arith in
-    omega (arith, low, c.ranges.end)
 
 pub loop-id-smaller : goal.loop-id-smaller
 loop-id-smaller c =
@@ -71,7 +56,7 @@ loop-id-smaller c =
 pub loop-id-preserved : goal.loop-id-preserved
 loop-id-preserved c =
     let low : c.loop-id.id < c.args.end = omega arith in
-    (found-cell c.args.chapter c.args.first c.args.end c.args.draws.now _ c.loop-id.id c.loop-id.counts c.loop-id.desk c.loop-id.tree c.loop-id.path c.loop-id.«record» c.loop-id.invariant.0 low c.requires.1 c.read_one.ensures c.in-Cell.is c.plus-counts.ensures, c.read_one.auto.desk ∙ c.loop-id.invariant.1, c.read_one.auto.tree ∙ c.loop-id.invariant.2, c.read_one.auto.path ∙ c.loop-id.invariant.3, c.read_one.auto.record ∙ c.loop-id.invariant.4)
+    (found-cell c.args.chapter c.args.first c.args.end c.args.draws.now _ c.loop-id.id c.loop-id.counts c.loop-id.desk c.loop-id.tree c.loop-id.path c.loop-id.«record» c.loop-id.invariant.0 low c.requires.1 c.read_one.ensures c.in_ok-cell.was c.plus-counts.ensures, c.read_one.auto.desk ∙ c.loop-id.invariant.1, c.read_one.auto.tree ∙ c.loop-id.invariant.2, c.read_one.auto.path ∙ c.loop-id.invariant.3, c.read_one.auto.record ∙ c.loop-id.invariant.4)
 
 pub overflow_sub-result : goal.overflow_sub-result
 overflow_sub-result c = c.requires.0
