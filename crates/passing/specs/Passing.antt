@@ -18,9 +18,7 @@ kind_of entry = cond (is_record entry) Write Read
 
 -- a request's refusal, if it ended in one
 abbrev pub finished_outcome : Result Finished Refusal → Result Unit Refusal
-finished_outcome (Ok finished.Record) = Ok tt
-finished_outcome (Ok finished.Never) = Ok tt
-finished_outcome (Ok finished.Done) = Ok tt
+finished_outcome (Ok f) = Ok tt
 finished_outcome (Err q) = Err q
 
 abbrev pub outcome_of : Answered → Result Unit Refusal

@@ -4,12 +4,10 @@
 ghost use Rattle.std.specs.Prelude.{◌≡◌, ◌-◌, ◌*◌, ◌≤◌, length, Ok};
 ghost use Rattle.sizes.specs.Sizes.{record_len};
 ghost use Rattle.book.specs.MatrixRow.{row_checked};
-ghost use Rattle.passing.specs.Passing.{kind_of, finished_outcome, requested_entry, request_entry, passed, pass_from, sheet_passed, pass_of};
+ghost use Rattle.passing.specs.Passing.{kind_of, requested_entry, request_entry, passed, pass_from, sheet_passed, pass_of};
 
 use desk::Kind;
-use requests::Answered;
-use sizes::{Outcome, Sizes};
-use store::Finished;
+use sizes::{Refusal, Sizes};
 
 // A record is written; where there is none, the id's is read.
 fn kind_of(entry: &[u8]) -> Kind
@@ -22,17 +20,6 @@ fn kind_of(entry: &[u8]) -> Kind
     Kind::Read
 }
 
-fn finished_outcome(finished: Finished) -> Outcome
-    ensures { result ≡ finished_outcome finished }
-{
-    match finished {
-        Finished::Record => Outcome::Done,
-        Finished::Never => Outcome::Done,
-        Finished::Done => Outcome::Done,
-        Finished::Refused(q) => Outcome::Refused(q),
-    }
-}
-
 // One request of an id, with its entry as the record.
 fn request_entry(
     desk: &mut [u8],
@@ -41,15 +28,14 @@ fn request_entry(
     entry: &mut [u8],
     id: u16,
     draw: u16,
-) -> Outcome
+) -> Result<(), Refusal>
     requires { length entry.old ≡ record_len }
     ensures { requested_entry result desk.new tree.new path.new entry.new ≡ request_entry desk.old tree.old path.old entry.old id draw }
 {
     let kind = kind_of(entry);
-    match requests::request(desk, tree, path, entry, kind, id, draw) {
-        Answered::Refused(q) => Outcome::Refused(q),
-        Answered::Asked { leaf: _, finished } => finished_outcome(finished),
-    }
+    let (_, finished) = requests::request(desk, tree, path, entry, kind, id, draw)?;
+    finished?;
+    Ok(())
 }
 
 // One request for each id of a range, rising, whatever the sheet holds.
@@ -61,28 +47,24 @@ fn pass(
     first: u16,
     end: u16,
     draws: &[u16],
-) -> Outcome
+) -> Result<(), Refusal>
     requires { (first ≤ end) × (length draws.now ≡ end - first) × (length sheet.old ≡ (end - first) * record_len) }
     ensures { passed result desk.new tree.new path.new sheet.new ≡ pass_from first 0 draws.now desk.old tree.old path.old sheet.old }
 {
-    let mut id = first;
-    while id < end {
+    for id in first..end {
         let i = (id - first) as usize;
         let at = i * Sizes::RECORD;
         let draw = draws[i];
-        match request_entry(
+        request_entry(
             desk,
             tree,
             path,
             &mut sheet[at..at + Sizes::RECORD],
             id,
             draw,
-        ) {
-            Outcome::Refused(q) => return Outcome::Refused(q),
-            Outcome::Done => id += 1,
-        }
+        )?;
     }
-    Outcome::Done
+    Ok(())
 }
 
 // A sheet of a range that was checked, with a path that begins as zeros.
@@ -93,7 +75,7 @@ pub fn pass_all(
     first: u16,
     end: u16,
     draws: &[u16],
-) -> Outcome
+) -> Result<(), Refusal>
     requires { (row_checked desk.old tree.old first end draws.now ≡ Ok tt) × (length sheet.old ≡ (end - first) * record_len) }
     ensures { sheet_passed result desk.new tree.new sheet.new ≡ pass_of desk.old tree.old first draws.now sheet.old }
 {

@@ -1,4 +1,5 @@
 -- `passing::pass` meets its contract: at each turn, what is left to do comes to what the whole pass is. Assumes nothing.
+use Rattle.std.proofs.lemmas.Result.{err_from_is_err_and}
 use Prim.Native.Nat.{ℕ, ◌+◌, ◌-◌, ◌*◌, ◌≤◌, ◌<◌}
 use mathlib.Core.Path.{◌≡◌, refl, ap, ◌∙◌}
 use native.Mathlib.Omega.{arith}
@@ -67,32 +68,14 @@ request_entry-requires c =
     let m : at + 64 - at ≡ 64 = omega arith in
     ap (λ (j : ℕ). length (part c.loop-id.sheet at j)) m ∙ length_part c.loop-id.sheet at 64 within
 
-pub shape_of-desk-in-Refused : goal.shape_of-desk-in-Refused
-shape_of-desk-in-Refused c = c.request_entry.auto.desk ∙ c.loop-id.invariant.1
-
-pub shape_of-tree-in-Refused : goal.shape_of-tree-in-Refused
-shape_of-tree-in-Refused c = c.request_entry.auto.tree ∙ c.loop-id.invariant.2
-
-pub shape_of-path-in-Refused : goal.shape_of-path-in-Refused
-shape_of-path-in-Refused c = c.request_entry.auto.path ∙ c.loop-id.invariant.3
-
-pub shape_of-sheet-in-Refused : goal.shape_of-sheet-in-Refused
-shape_of-sheet-in-Refused c =
-    let at = (c.loop-id.id - c.args.first) * 64 in
-    same_len_mid at (at + 64 - at) c.loop-id.sheet c.request_entry.new.entry c.request_entry.auto.entry ∙ c.loop-id.invariant.4
-
-pub returns-in-Refused : goal.returns-in-Refused
-returns-in-Refused c =
+pub returns-in_err-request_entry : goal.returns-in_err-request_entry
+returns-in_err-request_entry c =
     let low : c.loop-id.id < c.args.end = omega arith in
     let r = c.request_entry in
     let at = (c.loop-id.id - c.args.first) * 64 in
     let m : at + 64 - at ≡ 64 = omega arith in
-    pass-refused c.args.first c.args.end c.args.draws.now _ c.loop-id.id c.loop-id.desk c.loop-id.tree c.loop-id.path c.loop-id.sheet c.loop-id.invariant.0 low c.requires.1 (at + 64 - at) m r.ensures r.auto.entry c.in-Refused.is
-
-pub overflow_add-id : goal.overflow_add-id
-overflow_add-id c =
-    let low : c.loop-id.id < c.args.end = omega arith in
-    omega (arith, low, c.ranges.end)
+    let p = err_from_is_err_and c.from_residual.result c.from_residual.ensures.1 in
+    rw (p.1, p.2) (pass-refused c.args.first c.args.end c.args.draws.now _ c.loop-id.id c.loop-id.desk c.loop-id.tree c.loop-id.path c.loop-id.sheet c.loop-id.invariant.0 low c.requires.1 (at + 64 - at) m r.ensures r.auto.entry c.in_err-request_entry.was)
 
 pub loop-id-smaller : goal.loop-id-smaller
 loop-id-smaller c =
@@ -105,7 +88,7 @@ loop-id-preserved c =
     let r = c.request_entry in
     let at = (c.loop-id.id - c.args.first) * 64 in
     let m : at + 64 - at ≡ 64 = omega arith in (
-      entry_done c.args.first c.args.end c.args.draws.now _ c.loop-id.id c.loop-id.desk c.loop-id.tree c.loop-id.path c.loop-id.sheet c.loop-id.invariant.0 low c.requires.1 (at + 64 - at) m r.ensures r.auto.entry c.in-Done.is,
+      entry_done c.args.first c.args.end c.args.draws.now _ c.loop-id.id c.loop-id.desk c.loop-id.tree c.loop-id.path c.loop-id.sheet c.loop-id.invariant.0 low c.requires.1 (at + 64 - at) m r.ensures r.auto.entry c.in_ok-request_entry.was,
       r.auto.desk ∙ c.loop-id.invariant.1,
       r.auto.tree ∙ c.loop-id.invariant.2,
       r.auto.path ∙ c.loop-id.invariant.3,
