@@ -15,8 +15,8 @@ use Rattle.taking.specs.declared.Trouble.TheVariants.{Malformed, BadPlan}
 use Rattle.taking.specs.Taking.{trouble_number}
 use Rattle.printing.specs.Printing.{text_of}
 use Rattle.sheets.specs.Sheet.{empty_sheet}
-use Rattle.tap.specs.declared.Taken.{Taken}
-use Rattle.tap.specs.declared.Taken.TheVariants as taken
+use Rattle.tap.specs.declared.NotRead.{NotRead}
+use Rattle.tap.specs.declared.NotRead.TheVariants as not_read
 use Rattle.passing.specs.Passing.{SheetResult, pass_of}
 use Rattle.tap.specs.Tap.{WriteResult, wrote, write_checked, printed_by, write_by, write_of}
 use Rattle.tap.proofs.TextWritten.{write-passed}
@@ -36,11 +36,11 @@ trouble-fits t = minus-fits (trouble_number t) (omega (arith, trouble-most t))
 pub trouble-back : (t : Trouble) {z : ℤ} → z ≡ trouble_code t → to_z w32 (of_z w32 z) ≡ trouble_code t
 trouble-back t e = ap (λ (z : ℤ). to_z w32 (of_z w32 z)) e ∙ back (trouble-fits t)
 
-pub taken_back : (a : Taken) {z : ℤ} → z ≡ taken_code a → to_z w32 (of_z w32 z) ≡ taken_code a
+pub taken_back : (a : Result Unit NotRead) {z : ℤ} → z ≡ taken_code a → to_z w32 (of_z w32 z) ≡ taken_code a
 unfolding taken_code
-taken_back taken.Done e = ap (λ (z : ℤ). to_z w32 (of_z w32 z)) e
-taken_back (taken.Refused q) e = code-back q e
-taken_back (taken.Bad t line) e = trouble-back t e
+taken_back (Ok tt) e = ap (λ (z : ℤ). to_z w32 (of_z w32 z)) e
+taken_back (Err (not_read.Refused q)) e = code-back q e
+taken_back (Err (not_read.Bad t line)) e = trouble-back t e
 
 -- ---- writing
 

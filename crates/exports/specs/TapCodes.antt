@@ -3,8 +3,8 @@ use Rattle.sizes.specs.declared.Refusal.{Refusal}
 use Rattle.std.specs.Prelude.{ℕ, ◌≡◌, List, [], ◌∷◌, ℤ, pos, neg_ℤ, Err, Ok, Result}
 use Rattle.taking.specs.declared.Trouble.{Trouble}
 use Rattle.taking.specs.Taking.{trouble_number}
-use Rattle.tap.specs.declared.Taken.{Taken}
-use Rattle.tap.specs.declared.Taken.TheVariants as taken
+use Rattle.tap.specs.declared.NotRead.{NotRead}
+use Rattle.tap.specs.declared.NotRead.TheVariants as not_read
 use Rattle.tap.specs.Tap.{ReadResult, WriteResult}
 use Rattle.exports.specs.Codes.{refusal_code}
 
@@ -16,16 +16,16 @@ done_code = 0
 unfoldable pub trouble_code : Trouble → ℤ
 trouble_code t = neg_ℤ (pos (trouble_number t))
 
-unfoldable pub taken_code : Taken → ℤ
-taken_code taken.Done = pos done_code
-taken_code (taken.Refused r) = refusal_code r
-taken_code (taken.Bad t line) = trouble_code t
+unfoldable pub taken_code : Result Unit NotRead → ℤ
+taken_code (Ok tt) = pos done_code
+taken_code (Err (not_read.Refused r)) = refusal_code r
+taken_code (Err (not_read.Bad t line)) = trouble_code t
 
 -- the line's number is handed out beside a text's refusal, and only there: what was lent stays
-unfoldable pub line_or : Taken → List ℕ → List ℕ
-line_or taken.Done lent = lent
-line_or (taken.Refused r) lent = lent
-line_or (taken.Bad t line) lent = line ∷ []
+unfoldable pub line_or : Result Unit NotRead → List ℕ → List ℕ
+line_or (Ok tt) lent = lent
+line_or (Err (not_read.Refused r)) lent = lent
+line_or (Err (not_read.Bad t line)) lent = line ∷ []
 
 pub record ReadAnswers (number : ℤ) (desk tree line lent : List ℕ) (due : ReadResult) : Type 0 where
   pub number_is : number ≡ taken_code due.answer

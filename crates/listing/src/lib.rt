@@ -86,7 +86,7 @@ fn put_refused(out: &mut [u8], at: usize, r: Refusal) -> usize
     ensures { Wrote out.old at (spec.refused_text r) out.new result × (result ≤ at + length refused_word + most_decimal) }
 {
     let next = put(out, at, b"refused ");
-    decimal(out, next, sizes::number(r) as u64)
+    decimal(out, next, u8::from(r) as u64)
 }
 
 // A text has no zeros, so that what stands before the first one is the text.

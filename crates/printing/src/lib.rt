@@ -10,26 +10,22 @@ ghost use Rattle.printing.specs.Printed.{line_room, room_of};
 ghost use Rattle.printing.specs.Printing.{entry_text, entries_text, text_of};
 
 use sizes::Sizes;
-use verdicts::Reading;
 
 // The line of one entry, if it gets one, at a place of the buffer; answers the place after it.
 fn put_entry(out: &mut [u8], at: usize, chapter: u8, number: usize, entry: &[u8]) -> usize
     requires { (number < 10000) × (at + line_room ≤ length out.old) }
     ensures { Wrote out.old at (entry_text chapter number entry.now) out.new result × (result ≤ at + line_room) }
 {
-    match verdicts::read(entry) {
-        Reading::Bad => at,
-        Reading::Good(says) => {
-            let to = verdicts::NAME + says.length;
-            let printed = (says.chapter == chapter)
-                & print::is_printable(&entry[verdicts::NAME..to]);
-            if !printed {
-                return at;
-            }
-            let verdict = says.verdict;
-            print::put_verdict(out, at, number, verdict, &entry[verdicts::NAME..to])
-        }
+    let Some(says) = verdicts::read(entry) else {
+        return at;
+    };
+    let to = verdicts::NAME + says.length;
+    let name = &entry[verdicts::NAME..to];
+    let printed = (says.chapter == chapter) & print::is_printable(name);
+    if !printed {
+        return at;
     }
+    print::put_verdict(out, at, number, says.verdict, name)
 }
 
 fn put_entries(out: &mut [u8], from: usize, chapter: u8, n: usize, sheet: &[u8]) -> usize

@@ -19,7 +19,7 @@ use Rattle.taking.specs.declared.Text.TheVariants as took
 use Rattle.taking.specs.Taking.{take_of}
 use Rattle.printing.specs.Printed.{room_of}
 use Rattle.printing.specs.Printing.{text_of}
-use Rattle.tap.specs.declared.Taken.TheVariants as taken
+use Rattle.tap.specs.declared.NotRead.TheVariants as not_read
 use Rattle.passing.specs.Passing.{SheetResult, pass_of}
 use Rattle.tap.specs.Tap.{ReadResult, taken_by, read_text, read_by, read_of, WriteResult, write_rows, write_checked, printed_by, write_by, write_of}
 use Rattle.promises.specs.Taps.{AnyTap}
@@ -39,15 +39,15 @@ module _ (desk tree : List ℕ) (chapter year first end : ℕ) (draws text : Lis
 
 -- ---- a text that was read was refused by nothing
 
-pub taken-done : (o : Result Unit Refusal) → taken_by o ≡ taken.Done → o ≡ Ok tt
+pub taken-done : (o : Result Unit Refusal) → taken_by o ≡ Ok tt → o ≡ Ok tt
 taken-done (Ok tt) h = refl
 taken-done (Err q) h = let z : ◌≡◌ {A = ℕ} 0 1 = cc in absurd (omega arith)
 
-pub taken-same : (o : Result Unit Refusal) (q : Refusal) → taken_by o ≡ taken.Refused q → o ≡ Err q
+pub taken-same : (o : Result Unit Refusal) (q : Refusal) → taken_by o ≡ Err (not_read.Refused q) → o ≡ Err q
 taken-same (Ok tt) q h = let z : ◌≡◌ {A = ℕ} 0 1 = cc in absurd (omega arith)
 taken-same (Err p) q h = let k : p ≡ q = cc in ap Err k
 
-not-bad : (o : Result Unit Refusal) (t : Trouble) (line : ℕ) → taken_by o ≢ taken.Bad t line
+not-bad : (o : Result Unit Refusal) (t : Trouble) (line : ℕ) → taken_by o ≢ Err (not_read.Bad t line)
 not-bad (Ok tt) t line h = let z : ◌≡◌ {A = ℕ} 0 1 = cc in omega arith
 not-bad (Err q) t line h = let z : ◌≡◌ {A = ℕ} 0 1 = cc in omega arith
 
@@ -58,23 +58,23 @@ module _ (desk tree : List ℕ) (chapter year first end : ℕ) (draws text : Lis
     pub passes : (pass_of desk tree first draws (sheet desk tree chapter year first end draws text)).answer ≡ Ok tt
 
   by-text : (a : Text) → (take_of chapter year (end - first) text).answer ≡ a → row_checked desk tree first end draws ≡ Ok tt
-      → (read_text a desk tree first draws (sheet desk tree chapter year first end draws text)).answer ≡ taken.Done → WasRead
+      → (read_text a desk tree first draws (sheet desk tree chapter year first end draws text)).answer ≡ Ok tt → WasRead
   by-text took.Good k e h = record { checked = e; good = k; passes = taken-done _ h }
   by-text (took.Bad t line) k e h = let z : ◌≡◌ {A = ℕ} 0 1 = cc in absurd (omega arith)
 
-  by-checks : (o : Result Unit Refusal) → row_checked desk tree first end draws ≡ o → (read_by o desk tree chapter year first end draws text).answer ≡ taken.Done → WasRead
+  by-checks : (o : Result Unit Refusal) → row_checked desk tree first end draws ≡ o → (read_by o desk tree chapter year first end draws text).answer ≡ Ok tt → WasRead
   by-checks (Err q) e h = let z : ◌≡◌ {A = ℕ} 0 1 = cc in absurd (omega arith)
   by-checks (Ok tt) e h = by-text (take_of chapter year (end - first) text).answer refl e h
 
-  pub was_read : (read_of desk tree chapter year first end draws text).answer ≡ taken.Done → WasRead
+  pub was_read : (read_of desk tree chapter year first end draws text).answer ≡ Ok tt → WasRead
   was_read h = by-checks (row_checked desk tree first end draws) refl h
 
   -- and one that is good is not answered as bad
   pub good-answer : (take_of chapter year (end - first) text).answer ≡ took.Good → (t : Trouble) (line : ℕ)
-      → (read_of desk tree chapter year first end draws text).answer ≢ taken.Bad t line
+      → (read_of desk tree chapter year first end draws text).answer ≢ Err (not_read.Bad t line)
   good-answer e t line h = go (row_checked desk tree first end draws) h
     where
-      go : (o : Result Unit Refusal) → (read_by o desk tree chapter year first end draws text).answer ≡ taken.Bad t line → ⊥
+      go : (o : Result Unit Refusal) → (read_by o desk tree chapter year first end draws text).answer ≡ Err (not_read.Bad t line) → ⊥
       go (Err q) k = let z : ◌≡◌ {A = ℕ} 0 1 = cc in omega arith
       go (Ok tt) k =
           not-bad (pass_of desk tree first draws (sheet desk tree chapter year first end draws text)).answer t line

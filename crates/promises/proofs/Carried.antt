@@ -1,5 +1,5 @@
 -- A text that is written from one store and read into another: each id holds what comes of its line. Assumes nothing.
-use Rattle.std.specs.Prelude.{Ok, None, Some}
+use Rattle.std.specs.Prelude.{Ok, None, Some, Err}
 use Prim.Native.Nat.{ℕ, ◌+◌, ◌-◌, ◌<◌}
 use mathlib.Core.Path.{◌≡◌, refl, sym, ap, ap₂, subst, ◌∙◌}
 use mathlib.Core.Logic.{◌≢◌, ◌⊎◌, inl, inr, ⊎_elim}
@@ -25,7 +25,7 @@ use Rattle.sheets.specs.Sheet.{entry_at, is_record}
 use Rattle.taking.specs.declared.Trouble.{Trouble}
 use Rattle.taking.specs.Taking.{TextResult, take_of}
 use Rattle.printing.specs.Printing.{text_of}
-use Rattle.tap.specs.declared.Taken.TheVariants as taken
+use Rattle.tap.specs.declared.NotRead.TheVariants as not_read
 use Rattle.tap.specs.Tap.{ReadResult}
 use Rattle.returning.specs.Returning.{reading_said, is_said, Plain, back, WasPass}
 use Rattle.returning.proofs.Returns.{returning}
@@ -155,12 +155,12 @@ module _ (b : Start) (ts : TreeState) (chapter first end : ℕ) (o : Out b ts ch
       abbrev read : ReadResult
       read = tap_read ts' chapter year first' end' draws (text_in o)
 
-      not-bad : (t : Trouble) (line : ℕ) → read.answer ≢ taken.Bad t line
+      not-bad : (t : Trouble) (line : ℕ) → read.answer ≢ Err (not_read.Bad t line)
       not-bad t line h =
           good-answer ts'.state.desk ts'.tree chapter year first' end' draws (text_in o)
           (ap (λ (r : TextResult). r.answer) taken_is ∙ returning.good chapter year n sheet low) t line h
 
-      module _ (b' : Start) (byte : b'.room < 256) (reached : TreeReached (ours real) b' ts') (h : read.answer ≡ taken.Done) where
+      module _ (b' : Start) (byte : b'.room < 256) (reached : TreeReached (ours real) b' ts') (h : read.answer ≡ Ok tt) where
         abbrev table' : Table
         table' = ts'.state.table
 
@@ -213,7 +213,7 @@ module _ (b : Start) (ts : TreeState) (chapter first end : ℕ) (o : Out b ts ch
   begun-reached : TreeReached (ours real) b' begun
   begun-reached = record { lent = lent; formats = formats; tree = tree; size = size; taken = []; here = refl }
 
-  fresh-leaves : (year first' end' : ℕ) (draws : List ℕ) (same : end' - first' ≡ end - first) → (tap_read begun chapter year first' end' draws (text_in o)).answer ≡ taken.Done
+  fresh-leaves : (year first' end' : ℕ) (draws : List ℕ) (same : end' - first' ≡ end - first) → (tap_read begun chapter year first' end' draws (text_in o)).answer ≡ Ok tt
       → Leaves b' (tap_read begun chapter year first' end' draws (text_in o)).desk (tap_read begun chapter year first' end' draws (text_in o)).tree
       (λ id held. (i : ℕ) → i < end - first → id ≡ first' + i → ComesFresh chapter (ts.state.table (first + i)) held)
   fresh-leaves year first' end' draws same h =

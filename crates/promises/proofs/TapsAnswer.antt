@@ -19,7 +19,7 @@ use Rattle.book.proofs.Passed.{row-passed}
 use Rattle.sheets.specs.Sheet.{entry_start, entry_at, empty_sheet}
 use Rattle.returning.proofs.Sheets.{fill-long}
 use Rattle.taking.specs.declared.Text.{Text}
-use Rattle.tap.specs.declared.Taken.TheVariants as taken
+use Rattle.tap.specs.declared.NotRead.TheVariants as not_read
 use Rattle.passing.specs.Passing.{EntryResult, kind_of, request_entry, PassResult, going_on, pass_from, pass_of}
 use Rattle.tap.specs.Tap.{ReadResult, read_text, write_by}
 use Rattle.promises.specs.Stores.{ours, Start}
@@ -90,7 +90,7 @@ module _ (b : Start) (byte : b.room < 256) (ts : TreeState) (reached : TreeReach
   tree = ts.tree
 
   pub read-ends : (chapter year first end : ℕ) (draws text : List ℕ) → MayRead b ts chapter year first end draws text → (q : Refusal)
-      → (tap_read ts chapter year first end draws text).answer ≡ taken.Refused q → Ends b q
+      → (tap_read ts chapter year first end draws text).answer ≡ Err (not_read.Refused q) → Ends b q
   read-ends chapter year first end draws text o q h =
       let sheet = sheet_of chapter year first end text in
       let m = o.may_begin in

@@ -23,7 +23,7 @@ use Rattle.taking.specs.declared.Text.TheVariants as took
 use Rattle.taking.specs.Taking.{take_of}
 use Rattle.printing.specs.Printed.{room_of}
 use Rattle.printing.specs.Printing.{head_text, entry_text, entries_text, text_of}
-use Rattle.tap.specs.declared.Taken.TheVariants as taken
+use Rattle.tap.specs.declared.NotRead.TheVariants as not_read
 use Rattle.passing.specs.Passing.{kind_of, finished_outcome, outcome_of, request_entry, passed, going_on, pass_from, SheetResult, pass_of}
 use Rattle.tap.specs.Tap.{ReadResult, taken_by, read_text, read_of, printed_by, write_by, write_of}
 use Rattle.promises.specs.Stores.{Start, format_for}
@@ -74,7 +74,7 @@ module _ (b : Start) (lent : List ℕ) (p : Proper b lent) (room : 1 ≤ b.room)
       ∙ plain_done (kind_of entry) none)
 
   pub first_text : (chapter year : ℕ) (text : List ℕ) → (take_of chapter year 1 text).answer ≡ took.Good
-      → (read_of desk tree chapter year id (id + 1) (draw ∷ []) text).answer ≡ taken.Done
+      → (read_of desk tree chapter year id (id + 1) (draw ∷ []) text).answer ≡ Ok tt
   first_text chapter year text good =
       let n = id + 1 - id in
       let sheet = (take_of chapter year n text).sheet in

@@ -18,8 +18,8 @@ use Rattle.book.proofs.Passed.{row-passed}
 use Rattle.taking.specs.declared.Text.{Text}
 use Rattle.taking.specs.declared.Text.TheVariants as took
 use Rattle.taking.specs.Taking.{take_of}
-use Rattle.tap.specs.declared.Taken.{Taken}
-use Rattle.tap.specs.declared.Taken.TheVariants as taken
+use Rattle.tap.specs.declared.NotRead.{NotRead}
+use Rattle.tap.specs.declared.NotRead.TheVariants as not_read
 use Rattle.passing.specs.Passing.{pass_from, pass_of}
 use Rattle.tap.specs.Tap.{ReadResult, read_in, read_text, read_by}
 use Rattle.promises.specs.Stores.{ours, Start}
@@ -59,10 +59,10 @@ module _ (b : Start) (byte : b.room < 256) (ts : TreeState) (reached : TreeReach
       count : ℕ
       count_low : count ≤ n
       stands : Stands b (table_after first count sheet table) r.desk r.tree
-      all_done : r.answer ≡ taken.Done → count ≡ n
-      pub not_forged : r.answer ≢ taken.Refused Forged
+      all_done : r.answer ≡ Ok tt → count ≡ n
+      pub not_forged : r.answer ≢ Err (not_read.Refused Forged)
 
-    unread : (a : Taken) → a ≢ taken.Done → a ≢ taken.Refused Forged → Read (read_in a desk tree)
+    unread : (a : Result Unit NotRead) → a ≢ (Ok tt) → a ≢ Err (not_read.Refused Forged) → Read (read_in a desk tree)
     unread a d f =
         record {
           count = 0;
@@ -83,11 +83,11 @@ module _ (b : Start) (byte : b.room < 256) (ts : TreeState) (reached : TreeReach
           not_forged = λ h. p.not_forged (taken-same (pass_of desk tree first draws sheet).answer Forged h);
         }
     by-text (took.Bad t line) e =
-        unread (taken.Bad t line) (λ h. let z : ◌≡◌ {A = ℕ} 0 1 = cc in omega arith) (λ h. let z : ◌≡◌ {A = ℕ} 0 1 = cc in omega arith)
+        unread (Err (not_read.Bad t line)) (λ h. let z : ◌≡◌ {A = ℕ} 0 1 = cc in omega arith) (λ h. let z : ◌≡◌ {A = ℕ} 0 1 = cc in omega arith)
 
     by-checks : (o : Result Unit Refusal) → row_checked desk tree first end draws ≡ o → Read (read_by o desk tree chapter year first end draws text)
     by-checks (Err q) e =
-        unread (taken.Refused q) (λ h. let z : ◌≡◌ {A = ℕ} 0 1 = cc in omega arith)
+        unread (Err (not_read.Refused q)) (λ h. let z : ◌≡◌ {A = ℕ} 0 1 = cc in omega arith)
         (λ h. row_low desk tree first end draws q e (let k : q ≡ Forged = cc in k))
     by-checks (Ok tt) e = by-text (take_of chapter year n text).answer e
 
@@ -104,7 +104,7 @@ module _ (b : Start) (byte : b.room < 256) (ts : TreeState) (reached : TreeReach
           leaves = record { after = s.at; reached = s.reached; desk_is = s.desk_is; tree_is = s.tree_is; table_is = s.table_is };
         }
 
-    pub whole-read : (tap_read ts chapter year first end draws text).answer ≡ taken.Done
+    pub whole-read : (tap_read ts chapter year first end draws text).answer ≡ Ok tt
         → Leaves b (tap_read ts chapter year first end draws text).desk (tap_read ts chapter year first end draws text).tree
         (λ id held. held ≡ table_after first n sheet table id)
     whole-read h =

@@ -21,7 +21,7 @@ use Rattle.sheets.specs.Sheet.{entry_start, entry_at, empty_sheet}
 use Rattle.taking.specs.declared.Text.{Text}
 use Rattle.taking.specs.declared.Text.TheVariants as took
 use Rattle.taking.specs.Taking.{take_of}
-use Rattle.tap.specs.declared.Taken.TheVariants as taken
+use Rattle.tap.specs.declared.NotRead.TheVariants as not_read
 use Rattle.passing.specs.Passing.{kind_of, outcome_of, request_entry, PassResult, passed, going_on, pass_from, SheetResult, pass_of}
 use Rattle.tap.specs.Tap.{taken_by, read_text, read_by, read_of, write_checked, printed_by, write_by, write_of}
 use Rattle.promises.specs.Deeds.{leaf_asked, pass_shows, sheet_shows, text_shows, tap_in_shows_by, tap_in_shows, tap_out_shows_by, tap_out_shows, go_on_taken, go_on_printed}
@@ -163,7 +163,7 @@ pass_all first i (x ∷ xs) desk tree path sheet h =
     (pass_shows first (suc i) xs r.desk r.tree r.path s) (length xs) (pass_all first (suc i) xs r.desk r.tree r.path s) h
 
 pub read_asked : (desk tree : List ℕ) (chapter year first end : ℕ) (draws text : List ℕ)
-    → (read_of desk tree chapter year first end draws text).answer ≡ taken.Done → length (tap_in_shows desk tree chapter year first end draws text) ≡ end - first
+    → (read_of desk tree chapter year first end draws text).answer ≡ Ok tt → length (tap_in_shows desk tree chapter year first end draws text) ≡ end - first
 read_asked desk tree chapter year first end draws text h =
     let w = was_read desk tree chapter year first end draws text h in
     let sheet = (take_of chapter year (end - first) text).sheet in

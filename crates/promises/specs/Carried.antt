@@ -1,6 +1,6 @@
 -- A text that is written from one store and read into another, both over an honest server: what the second then holds, by what the first holds. Assumes
 -- nothing.
-use Rattle.std.specs.Prelude.{ℕ, ◌+◌, ◌-◌, ◌<◌, ◌≤◌, ◌≡◌, ◌≢◌, ◌⊎◌, false, List, length, take, Ok, Some}
+use Rattle.std.specs.Prelude.{ℕ, ◌+◌, ◌-◌, ◌<◌, ◌≤◌, ◌≡◌, ◌≢◌, ◌⊎◌, false, List, length, take, Ok, Some, Err}
 use Rattle.std.proofs.Math.Option.{Option, none, some}
 use Rattle.sizes.specs.Sizes.{tree_len}
 use Rattle.slots.specs.Slots.{Bytes}
@@ -10,7 +10,7 @@ use Rattle.verdicts.specs.declared.Entry.{Entry}
 use Rattle.verdicts.specs.Verdict.{reading_of, name_in, record_of}
 use Rattle.taking.specs.declared.Trouble.{Trouble}
 use Rattle.returning.specs.Returning.{is_said, Plain}
-use Rattle.tap.specs.declared.Taken.TheVariants as taken
+use Rattle.tap.specs.declared.NotRead.TheVariants as not_read
 use Rattle.tap.specs.Tap.{read_of}
 use Rattle.promises.specs.Stores.{ours, Start, format_for}
 use Rattle.promises.specs.Trees.{TreeState, TreeReached}
@@ -62,17 +62,17 @@ text_in {ts = ts} {chapter = chapter} {first = first} {end = end} o = take o.len
 pub record Carried : Type 0 where
   -- a range of the same length in another store, or in the same, takes it: no line of it is refused
   pub never_bad : (b : Start) (ts : TreeState) (chapter first end : ℕ) (o : Out b ts chapter first end) (ts' : TreeState) (year first' end' : ℕ) (draws : List ℕ)
-      → end' - first' ≡ end - first → (t : Trouble) (line : ℕ) → (tap_read ts' chapter year first' end' draws (text_in o)).answer ≢ taken.Bad t line
+      → end' - first' ≡ end - first → (t : Trouble) (line : ℕ) → (tap_read ts' chapter year first' end' draws (text_in o)).answer ≢ Err (not_read.Bad t line)
   pub carried : (b : Start) (ts : TreeState) (chapter first end : ℕ) (o : Out b ts chapter first end)
       → (b' : Start) → b'.room < 256 → (ts' : TreeState) → TreeReached (ours real) b' ts' → (year first' end' : ℕ) (draws : List ℕ)
-      → end' - first' ≡ end - first → (tap_read ts' chapter year first' end' draws (text_in o)).answer ≡ taken.Done
+      → end' - first' ≡ end - first → (tap_read ts' chapter year first' end' draws (text_in o)).answer ≡ Ok tt
       → Leaves b' (tap_read ts' chapter year first' end' draws (text_in o)).desk (tap_read ts' chapter year first' end' draws (text_in o)).tree
       (CarriedTo chapter year first (end - first) first' ts.state.table ts'.state.table)
   -- into a fresh store, over a tree with any bytes
   pub fresh : (b : Start) (ts : TreeState) (chapter first end : ℕ) (o : Out b ts chapter first end)
       → (b' : Start) → b'.room < 256 → (lent : List ℕ) → (format_for b' lent).answer ≡ Ok tt → (tree : List ℕ) → length tree ≡ tree_len b'.sizes
       → (year first' end' : ℕ) (draws : List ℕ) → end' - first' ≡ end - first
-      → (read_of (format_for b' lent).desk tree chapter year first' end' draws (text_in o)).answer ≡ taken.Done
+      → (read_of (format_for b' lent).desk tree chapter year first' end' draws (text_in o)).answer ≡ Ok tt
       → Leaves b' (read_of (format_for b' lent).desk tree chapter year first' end' draws (text_in o)).desk
       (read_of (format_for b' lent).desk tree chapter year first' end' draws (text_in o)).tree
       (λ id held. (i : ℕ) → i < end - first → id ≡ first' + i → ComesFresh chapter (ts.state.table (first + i)) held)

@@ -18,8 +18,8 @@ use Rattle.sheets.specs.Sheet.{entry_start, entry_at, empty_sheet}
 use Rattle.taking.specs.declared.Text.{Text}
 use Rattle.taking.specs.declared.Text.TheVariants as took
 use Rattle.taking.specs.Taking.{TextResult, take_of}
-use Rattle.tap.specs.declared.Taken.{Taken}
-use Rattle.tap.specs.declared.Taken.TheVariants as taken
+use Rattle.tap.specs.declared.NotRead.{NotRead}
+use Rattle.tap.specs.declared.NotRead.TheVariants as not_read
 use Rattle.passing.specs.Passing.{kind_of}
 use Rattle.tap.specs.Tap.{read_of, write_checked, write_of}
 use Rattle.promises.specs.Stores.{ours, format_for}
@@ -100,10 +100,10 @@ abbrev pub go_on_row : Result Row Refusal → List ℕ → List ℕ
 go_on_row (Ok row) more = more
 go_on_row (Err q) more = []
 
-abbrev pub go_on_taken : Taken → List ℕ → List ℕ
-go_on_taken taken.Done more = more
-go_on_taken (taken.Bad trouble line) more = []
-go_on_taken (taken.Refused q) more = []
+abbrev pub go_on_taken : Result Unit NotRead → List ℕ → List ℕ
+go_on_taken (Ok tt) more = more
+go_on_taken (Err (not_read.Bad trouble line)) more = []
+go_on_taken (Err (not_read.Refused q)) more = []
 
 abbrev pub go_on_printed : Result ℕ Refusal → List ℕ → List ℕ
 go_on_printed (Ok len) more = more
@@ -149,6 +149,6 @@ pub record ThreeWithDeeds : Type 0 where
       → (row_of desk tree chapter first end draws).answer ≡ counted c complete → length (row_shows desk tree first end draws) ≡ end - first
   -- so has a text that is read, whatever it says, and one that is written
   pub read_asks_for_each : (desk tree : List ℕ) (chapter year first end : ℕ) (draws text : List ℕ)
-      → (read_of desk tree chapter year first end draws text).answer ≡ taken.Done → length (tap_in_shows desk tree chapter year first end draws text) ≡ end - first
+      → (read_of desk tree chapter year first end draws text).answer ≡ Ok tt → length (tap_in_shows desk tree chapter year first end draws text) ≡ end - first
   pub write_asks_for_each : (desk tree : List ℕ) (chapter first end : ℕ) (draws out : List ℕ) (len : ℕ)
       → (write_of desk tree chapter first end draws out).answer ≡ Ok len → length (tap_out_shows desk tree first end draws out) ≡ end - first

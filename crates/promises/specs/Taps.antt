@@ -17,7 +17,7 @@ use Rattle.taking.specs.declared.Text.TheVariants as took
 use Rattle.taking.specs.Taking.{take_of}
 use Rattle.printing.specs.Printed.{room_of}
 use Rattle.printing.specs.Printing.{head_text, text_of}
-use Rattle.tap.specs.declared.Taken.TheVariants as taken
+use Rattle.tap.specs.declared.NotRead.TheVariants as not_read
 use Rattle.tap.specs.Tap.{ReadResult, read_of, WriteResult, write_checked, write_of}
 use Rattle.promises.specs.Stores.{ours, Start, format_for}
 use Rattle.promises.specs.Trees.{TreeState, TreeReached}
@@ -85,22 +85,22 @@ pub record MayWrite (b : Start) (ts : TreeState) (first end : ℕ) (draws out : 
 pub record HonestTaps : Type 0 where
   -- a text that is read: each id with a line holds its record, all others what they held
   pub reads : (b : Start) → b.room < 256 → (ts : TreeState) → TreeReached (ours real) b ts → (chapter year first end : ℕ) (draws text : List ℕ)
-      → (tap_read ts chapter year first end draws text).answer ≡ taken.Done
+      → (tap_read ts chapter year first end draws text).answer ≡ Ok tt
       → Leaves b (tap_read ts chapter year first end draws text).desk (tap_read ts chapter year first end draws text).tree
       (λ id held. held ≡ table_after first (end - first) (sheet_of chapter year first end text) ts.state.table id)
   -- whatever it answers, the ids before some one hold what their lines say, and all others what they held: what was done before a refusal stays
   pub part_read : (b : Start) → b.room < 256 → (ts : TreeState) → TreeReached (ours real) b ts → (chapter year first end : ℕ) (draws text : List ℕ)
       → PartRead b ts chapter year first end draws text
   pub read_not_forged : (b : Start) → b.room < 256 → (ts : TreeState) → TreeReached (ours real) b ts → (chapter year first end : ℕ) (draws text : List ℕ)
-      → (tap_read ts chapter year first end draws text).answer ≢ taken.Refused Forged
+      → (tap_read ts chapter year first end draws text).answer ≢ Err (not_read.Refused Forged)
   -- a text that may be read is read, or it ends as Worn or Full: no other refusal ends it, and it is not answered as bad
   pub read_answers : (b : Start) → b.room < 256 → (ts : TreeState) → TreeReached (ours real) b ts → (chapter year first end : ℕ) (draws text : List ℕ)
       → MayRead b ts chapter year first end draws text
-      → ((q : Refusal) → (tap_read ts chapter year first end draws text).answer ≡ taken.Refused q → (q ≡ Worn) ⊎ (q ≡ Full))
-      × ((t : Trouble) (line : ℕ) → (tap_read ts chapter year first end draws text).answer ≢ taken.Bad t line)
+      → ((q : Refusal) → (tap_read ts chapter year first end draws text).answer ≡ Err (not_read.Refused q) → (q ≡ Worn) ⊎ (q ≡ Full))
+      × ((t : Trouble) (line : ℕ) → (tap_read ts chapter year first end draws text).answer ≢ Err (not_read.Bad t line))
   -- where the stash has room for every id, as Worn alone
   pub read_roomy : (b : Start) → b.room < 256 → b.ids ≤ b.room → (ts : TreeState) → TreeReached (ours real) b ts → (chapter year first end : ℕ) (draws text : List ℕ)
-      → MayRead b ts chapter year first end draws text → (q : Refusal) → (tap_read ts chapter year first end draws text).answer ≡ taken.Refused q → q ≡ Worn
+      → MayRead b ts chapter year first end draws text → (q : Refusal) → (tap_read ts chapter year first end draws text).answer ≡ Err (not_read.Refused q) → q ≡ Worn
   -- a text that is written is the one that says the table, and the table stays, whatever the answer
   pub writes : (b : Start) → b.room < 256 → (ts : TreeState) → TreeReached (ours real) b ts → (chapter first end : ℕ) (draws out : List ℕ) (len : ℕ)
       → (tap_write ts chapter first end draws out).answer ≡ Ok len
@@ -118,7 +118,7 @@ pub record HonestTaps : Type 0 where
   -- there are texts that are read: on a fresh store, over a tree with any bytes, a good text for one id is, and every text that says a sheet is good
   pub first_text : (b : Start) (lent : List ℕ) → Proper b lent → 1 ≤ b.room → (tree : List ℕ) → length tree ≡ tree_len b.sizes
       → (chapter year id draw : ℕ) → 1 ≤ id → id ≤ b.ids → AllLeaves b (draw ∷ []) → (text : List ℕ) → (take_of chapter year 1 text).answer ≡ took.Good
-      → (read_of (format_for b lent).desk tree chapter year id (id + 1) (draw ∷ []) text).answer ≡ taken.Done
+      → (read_of (format_for b lent).desk tree chapter year id (id + 1) (draw ∷ []) text).answer ≡ Ok tt
   pub good_texts : (chapter year n : ℕ) (sheet : List ℕ) → n < 65536 → (take_of chapter year n (text_of chapter n sheet)).answer ≡ took.Good
   -- and there are texts that are written: of one id of a fresh store, version and plan alone
   pub first_written : (b : Start) (lent : List ℕ) → Proper b lent → 1 ≤ b.room → (tree : List ℕ) → length tree ≡ tree_len b.sizes
@@ -131,7 +131,7 @@ pub record HonestTaps : Type 0 where
 pub record AnyTap : Type 0 where
   -- a refusal before any ask changes nothing
   pub read_refuses : (desk tree : List ℕ) (chapter year first end : ℕ) (draws text : List ℕ) (q : Refusal) → row_checked desk tree first end draws ≡ Err q
-      → ((read_of desk tree chapter year first end draws text).answer ≡ taken.Refused q) × ((read_of desk tree chapter year first end draws text).desk ≡ desk)
+      → ((read_of desk tree chapter year first end draws text).answer ≡ Err (not_read.Refused q)) × ((read_of desk tree chapter year first end draws text).desk ≡ desk)
       × ((read_of desk tree chapter year first end draws text).tree ≡ tree)
   pub write_refuses : (desk tree : List ℕ) (chapter first end : ℕ) (draws out : List ℕ) (q : Refusal) → write_checked desk tree first end draws out ≡ Err q
       → ((write_of desk tree chapter first end draws out).answer ≡ Err q) × ((write_of desk tree chapter first end draws out).desk ≡ desk)
@@ -139,7 +139,7 @@ pub record AnyTap : Type 0 where
   -- a text that is refused leaves the store as it was: no ask has come
   pub bad_text : (desk tree : List ℕ) (chapter year first end : ℕ) (draws text : List ℕ) (t : Trouble) (line : ℕ)
       → row_checked desk tree first end draws ≡ Ok tt → (take_of chapter year (end - first) text).answer ≡ took.Bad t line
-      → ((read_of desk tree chapter year first end draws text).answer ≡ taken.Bad t line) × ((read_of desk tree chapter year first end draws text).desk ≡ desk)
+      → ((read_of desk tree chapter year first end draws text).answer ≡ Err (not_read.Bad t line)) × ((read_of desk tree chapter year first end draws text).desk ≡ desk)
       × ((read_of desk tree chapter year first end draws text).tree ≡ tree)
   -- a refusal hands out no text: the buffer is as it was
   pub no_text : (desk tree : List ℕ) (chapter first end : ℕ) (draws out : List ℕ) (q : Refusal)

@@ -12,7 +12,7 @@ use sizes::Sizes;
 use text::bytes;
 
 // The refusals of a text.
-#[derive(Clone, Copy, Drop)]
+#[derive(Clone, Copy, Debug, PartialEq, Eq)]
 pub enum Trouble {
     Malformed,
     BadPlan,

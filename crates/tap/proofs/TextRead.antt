@@ -10,8 +10,8 @@ use Rattle.taking.specs.declared.Trouble.{Trouble}
 use Rattle.taking.specs.declared.Text.{Text}
 use Rattle.taking.specs.declared.Text.TheVariants as text
 use Rattle.taking.specs.Taking.{TextResult, took, take_into, take_of}
-use Rattle.tap.specs.declared.Taken.{Taken}
-use Rattle.tap.specs.declared.Taken.TheVariants as taken
+use Rattle.tap.specs.declared.NotRead.{NotRead}
+use Rattle.tap.specs.declared.NotRead.TheVariants as not_read
 use Rattle.passing.specs.Passing.{sheet_passed, pass_of}
 use Rattle.tap.specs.Tap.{read_in, taken_by, read_passed, read_text, read_taken, read_by, read_of}
 
@@ -22,7 +22,7 @@ module _ (desk tree : List ℕ) (chapter year first n : ℕ) (draws words : List
       ap (λ (x : Text). read_text x desk tree first draws s) (sym h)
       ∙ ap (λ (x : TextResult). read_taken x desk tree first draws) (e ∙ ap (λ (y : List ℕ). take_into chapter year n y words) z)
 
-  pub text-bad : {trouble : Trouble} {line : ℕ} → r ≡ text.Bad trouble line → read_in (taken.Bad trouble line) desk tree ≡ read_taken (take_of chapter year n words) desk tree first draws
+  pub text-bad : {trouble : Trouble} {line : ℕ} → r ≡ text.Bad trouble line → read_in (Err (not_read.Bad trouble line)) desk tree ≡ read_taken (take_of chapter year n words) desk tree first draws
   text-bad h = by-text h
 
   pub text-good : r ≡ text.Good → {o p : Result Unit Refusal} {d t y : List ℕ} → sheet_passed o d t y ≡ pass_of desk tree first draws s → o ≡ p
@@ -35,9 +35,9 @@ module _ (desk tree : List ℕ) (chapter year first end : ℕ) (draws words : Li
   by-checks : {o : Result Unit Refusal} → row_checked desk tree first end draws ≡ o → read_by o desk tree chapter year first end draws words ≡ read_of desk tree chapter year first end draws words
   by-checks h = ap (λ (x : Result Unit Refusal). read_by x desk tree chapter year first end draws words) (sym h)
 
-  pub read-refused : {q : Refusal} → row_checked desk tree first end draws ≡ Err q → read_in (taken.Refused q) desk tree ≡ read_of desk tree chapter year first end draws words
+  pub read-refused : {q : Refusal} → row_checked desk tree first end draws ≡ Err q → read_in (Err (not_read.Refused q)) desk tree ≡ read_of desk tree chapter year first end draws words
   read-refused h = by-checks h
 
-  pub read_done : row_checked desk tree first end draws ≡ Ok tt → {a : Taken} {d t : List ℕ} → read_in a d t ≡ read_taken (take_of chapter year (end - first) words) desk tree first draws
+  pub read_done : row_checked desk tree first end draws ≡ Ok tt → {a : Result Unit NotRead} {d t : List ℕ} → read_in a d t ≡ read_taken (take_of chapter year (end - first) words) desk tree first draws
       → read_in a d t ≡ read_of desk tree chapter year first end draws words
   read_done h k = k ∙ by-checks h

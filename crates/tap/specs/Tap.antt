@@ -12,23 +12,23 @@ use Rattle.taking.specs.declared.Text.TheVariants as text
 use Rattle.sheets.specs.Sheet.{empty_sheet}
 use Rattle.taking.specs.Taking.{TextResult, take_of}
 use Rattle.printing.specs.Printing.{text_of}
-use Rattle.tap.specs.declared.Taken.{Taken}
-use Rattle.tap.specs.declared.Taken.TheVariants as taken
+use Rattle.tap.specs.declared.NotRead.{NotRead}
+use Rattle.tap.specs.declared.NotRead.TheVariants as not_read
 use Rattle.passing.specs.Passing.{SheetResult, pass_of}
 
 -- ---- reading: the book's refusals, then the text's, then those of the requests
 
 pub record ReadResult : Type 0 where
-  pub answer : Taken
+  pub answer : Result Unit NotRead
   pub desk : List ℕ
   pub tree : List ℕ
 
-abbrev pub read_in : Taken → List ℕ → List ℕ → ReadResult
+abbrev pub read_in : Result Unit NotRead → List ℕ → List ℕ → ReadResult
 read_in a d t = record { answer = a; desk = d; tree = t }
 
-abbrev pub taken_by : Result Unit Refusal → Taken
-taken_by (Ok tt) = taken.Done
-taken_by (Err q) = taken.Refused q
+abbrev pub taken_by : Result Unit Refusal → Result Unit NotRead
+taken_by (Ok tt) = Ok tt
+taken_by (Err q) = Err (not_read.Refused q)
 
 abbrev pub read_passed : SheetResult → ReadResult
 read_passed r = read_in (taken_by r.answer) r.desk r.tree
@@ -36,13 +36,13 @@ read_passed r = read_in (taken_by r.answer) r.desk r.tree
 -- no ask comes before the whole text is read
 abbrev pub read_text : Text → List ℕ → List ℕ → ℕ → List ℕ → List ℕ → ReadResult
 read_text text.Good desk tree first draws sheet = read_passed (pass_of desk tree first draws sheet)
-read_text (text.Bad trouble line) desk tree first draws sheet = read_in (taken.Bad trouble line) desk tree
+read_text (text.Bad trouble line) desk tree first draws sheet = read_in (Err (not_read.Bad trouble line)) desk tree
 
 abbrev pub read_taken : TextResult → List ℕ → List ℕ → ℕ → List ℕ → ReadResult
 read_taken r desk tree first draws = read_text r.answer desk tree first draws r.sheet
 
 abbrev pub read_by : Result Unit Refusal → List ℕ → List ℕ → ℕ → ℕ → ℕ → ℕ → List ℕ → List ℕ → ReadResult
-read_by (Err q) desk tree chapter year first end draws text = read_in (taken.Refused q) desk tree
+read_by (Err q) desk tree chapter year first end draws text = read_in (Err (not_read.Refused q)) desk tree
 read_by (Ok tt) desk tree chapter year first end draws text = read_taken (take_of chapter year (end - first) text) desk tree first draws
 
 abbrev pub read_of : List ℕ → List ℕ → ℕ → ℕ → ℕ → ℕ → List ℕ → List ℕ → ReadResult

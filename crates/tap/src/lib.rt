@@ -2,6 +2,7 @@
 #![tactic(auto)]
 
 ghost use Rattle.std.specs.Prelude.{◌≡◌, ◌-◌, Ok};
+ghost use Rattle.tap.specs.declared.NotRead.TheVariants as not_read;
 ghost use Rattle.book.specs.MatrixRow.{row_checked};
 ghost use Rattle.printing.specs.Printed.{room_of};
 ghost use Rattle.sheets.specs.Sheet.{empty_sheet};
@@ -10,22 +11,22 @@ ghost use Rattle.passing.specs.Passing.{pass_of};
 ghost use Rattle.tap.specs.Tap.{read_in, read_taken, read_of, wrote, write_checked, write_passed, write_of};
 
 use printing::print;
-use sizes::{Outcome, Refusal, Sizes};
+use sizes::{Refusal, Sizes};
 use taking::{Text, Trouble};
 
-// What reading answers: the store's refusals, or the text's with the number of its line.
-#[derive(Clone, Copy, Drop)]
-pub enum Taken {
-    Done,
+// Why a text was not read into the store: the store's refusals, or the text's with the number of its line.
+#[derive(Clone, Copy, Debug, PartialEq, Eq)]
+pub enum NotRead {
     Refused(Refusal),
     Bad { trouble: Trouble, line: usize },
 }
 
-// What writing answers: the length of the text.
-#[derive(Clone, Copy, Drop)]
-pub enum Printed {
-    Length(usize),
-    Refused(Refusal),
+impl From<Refusal> for NotRead {
+    ghost from_gives = { λ q e. e ≡ not_read.Refused q };
+
+    fn from(q: Refusal) -> NotRead {
+        NotRead::Refused(q)
+    }
 }
 
 // The room that the text of a range of `n` ids is written into.
@@ -46,16 +47,16 @@ fn read_checked(
     end: u16,
     draws: &[u16],
     text: &[u8],
-) -> Taken
+) -> Result<(), NotRead>
     requires { (row_checked desk.old tree.old first end draws.now ≡ Ok tt) × (sheet.old ≡ empty_sheet (end - first)) }
     ensures { read_in result desk.new tree.new ≡ read_taken (take_of chapter year (end - first) text.now) desk.old tree.old first draws.now }
 {
     match taking::take(sheet, chapter, year, (end - first) as usize, text) {
-        Text::Bad { trouble, line } => Taken::Bad { trouble, line },
-        Text::Good => match passing::pass_all(desk, tree, sheet, first, end, draws) {
-            Outcome::Refused(q) => Taken::Refused(q),
-            Outcome::Done => Taken::Done,
-        },
+        Text::Bad { trouble, line } => Err(NotRead::Bad { trouble, line }),
+        Text::Good => {
+            passing::pass_all(desk, tree, sheet, first, end, draws)?;
+            Ok(())
+        }
     }
 }
 
@@ -69,27 +70,23 @@ pub fn read(
     end: u16,
     draws: &[u16],
     text: &[u8],
-) -> Taken
+) -> Result<(), NotRead>
     ensures { read_in result desk.new tree.new ≡ read_of desk.old tree.old chapter year first end draws.now text.now }
 {
-    match book::row_checked(desk, tree, first, end, draws) {
-        Outcome::Refused(q) => Taken::Refused(q),
-        Outcome::Done => {
-            let n = (end - first) as usize * Sizes::RECORD;
-            let mut sheet = [0u8; sheets::MOST_SHEET];
-            read_checked(
-                desk,
-                tree,
-                &mut sheet[..n],
-                chapter,
-                year,
-                first,
-                end,
-                draws,
-                text,
-            )
-        }
-    }
+    book::row_checked(desk, tree, first, end, draws)?;
+    let n = (end - first) as usize * Sizes::RECORD;
+    let mut sheet = [0u8; sheets::MOST_SHEET];
+    read_checked(
+        desk,
+        tree,
+        &mut sheet[..n],
+        chapter,
+        year,
+        first,
+        end,
+        draws,
+        text,
+    )
 }
 
 // The refusals of writing before any ask, in order.
@@ -100,18 +97,14 @@ fn write_checked(
     end: u16,
     draws: &[u16],
     out: &[u8],
-) -> Outcome
+) -> Result<(), Refusal>
     ensures { result ≡ write_checked desk.now tree.now first end draws.now out.now }
 {
-    match book::row_checked(desk, tree, first, end, draws) {
-        Outcome::Refused(q) => Outcome::Refused(q),
-        Outcome::Done => {
-            if out.len() != room(end - first) {
-                return Outcome::Refused(Refusal::BadLength);
-            }
-            Outcome::Done
-        }
+    book::row_checked(desk, tree, first, end, draws)?;
+    if out.len() != room(end - first) {
+        return Err(Refusal::BadLength);
     }
+    Ok(())
 }
 
 // The ids are read into the sheet, and the buffer is written once all have been.
@@ -124,19 +117,16 @@ fn write_range(
     end: u16,
     draws: &[u16],
     out: &mut [u8],
-) -> Printed
+) -> Result<usize, Refusal>
     requires { (write_checked desk.old tree.old first end draws.now out.old ≡ Ok tt) × (sheet.old ≡ empty_sheet (end - first)) }
     ensures { wrote result desk.new tree.new out.new ≡ write_passed chapter (end - first) (pass_of desk.old tree.old first draws.now (empty_sheet (end - first))) out.old }
 {
-    match passing::pass_all(desk, tree, sheet, first, end, draws) {
-        Outcome::Refused(q) => Printed::Refused(q),
-        Outcome::Done => {
-            Printed::Length(printing::put(out, chapter, (end - first) as usize, sheet))
-        }
-    }
+    passing::pass_all(desk, tree, sheet, first, end, draws)?;
+    Ok(printing::put(out, chapter, (end - first) as usize, sheet))
 }
 
-// Writes the text that says a chapter's verdicts of the ids from `first` up to, not including, `end` into a buffer of the room for them.
+// Writes the text that says a chapter's verdicts of the ids from `first` up to, not including, `end` into a buffer of the room for them;
+// the answer is the text's length.
 pub fn write(
     desk: &mut [u8],
     tree: &mut [u8],
@@ -145,15 +135,11 @@ pub fn write(
     end: u16,
     draws: &[u16],
     out: &mut [u8],
-) -> Printed
+) -> Result<usize, Refusal>
     ensures { wrote result desk.new tree.new out.new ≡ write_of desk.old tree.old chapter first end draws.now out.old }
 {
-    match write_checked(desk, tree, first, end, draws, out) {
-        Outcome::Refused(q) => Printed::Refused(q),
-        Outcome::Done => {
-            let n = (end - first) as usize * Sizes::RECORD;
-            let mut sheet = [0u8; sheets::MOST_SHEET];
-            write_range(desk, tree, &mut sheet[..n], chapter, first, end, draws, out)
-        }
-    }
+    write_checked(desk, tree, first, end, draws, out)?;
+    let n = (end - first) as usize * Sizes::RECORD;
+    let mut sheet = [0u8; sheets::MOST_SHEET];
+    write_range(desk, tree, &mut sheet[..n], chapter, first, end, draws, out)
 }

@@ -8,6 +8,6 @@ use Rattle.listing.proofs.put_refused.Goals as goal
 
 pub returns : goal.returns
 returns c =
-    let e = c.number.ensures in
+    let e = c.from.ensures in
     let w = c.decimal.ensures.0 in
     (and_then refused_word (decimal (number_of c.args.r)) c.put-next.ensures (rw e at w) (omega arith), omega arith)

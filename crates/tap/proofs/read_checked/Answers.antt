@@ -1,4 +1,5 @@
 -- `tap::read_checked` meets its contract: a bad text is the answer, and a good one's sheet goes through the store. Assumes nothing.
+use Rattle.std.proofs.lemmas.Result.{err_from_is_err_and}
 use Prim.Native.Nat.{◌-◌}
 use mathlib.Core.Path.{◌∙◌}
 use native.Mathlib.Omega.{arith}
@@ -20,10 +21,11 @@ pub returns-in-Bad : goal.returns-in-Bad
 returns-in-Bad c =
     text-bad c.args.desk.now c.args.tree.now c.args.chapter c.args.year c.args.first (c.args.end - c.args.first) c.args.draws.now c.args.text.now c.requires.1 c.take.ensures c.in-Bad.is
 
-pub returns-in-Refused : goal.returns-in-Refused
-returns-in-Refused c =
-    text-good c.args.desk.now c.args.tree.now c.args.chapter c.args.year c.args.first (c.args.end - c.args.first) c.args.draws.now c.args.text.now c.requires.1 c.take.ensures c.in-Good.is c.pass_all.ensures c.in-Refused.is
+pub returns-in_err-pass_all : goal.returns-in_err-pass_all
+returns-in_err-pass_all c =
+    let p = err_from_is_err_and c.from_residual.result c.from_residual.ensures.1 in
+    rw (p.1, p.2) (text-good c.args.desk.now c.args.tree.now c.args.chapter c.args.year c.args.first (c.args.end - c.args.first) c.args.draws.now c.args.text.now c.requires.1 c.take.ensures c.in-Good.is c.pass_all.ensures c.in_err-pass_all.was)
 
-pub returns-in-Done : goal.returns-in-Done
-returns-in-Done c =
-    text-good c.args.desk.now c.args.tree.now c.args.chapter c.args.year c.args.first (c.args.end - c.args.first) c.args.draws.now c.args.text.now c.requires.1 c.take.ensures c.in-Good.is c.pass_all.ensures c.in-Done.is
+pub returns : goal.returns
+returns c =
+    text-good c.args.desk.now c.args.tree.now c.args.chapter c.args.year c.args.first (c.args.end - c.args.first) c.args.draws.now c.args.text.now c.requires.1 c.take.ensures c.in-Good.is c.pass_all.ensures c.in_ok-pass_all.was

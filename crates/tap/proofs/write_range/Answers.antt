@@ -1,4 +1,5 @@
 -- `tap::write_range` meets its contract: after a refusal the buffer is as it was, and otherwise has the text in front. Assumes nothing.
+use Rattle.std.proofs.lemmas.Result.{err_from_is_err_and}
 use Prim.Native.Nat.{◌-◌}
 use mathlib.Core.Path.{◌∙◌}
 use native.Mathlib.Omega.{arith}
@@ -19,10 +20,11 @@ put-requires c =
     let g = good-range (row-passed w.row) in
     (g.some, omega (arith, g.few), c.pass_all.auto.sheet ∙ empty-long (c.args.end - c.args.first) c.requires.1, w.room)
 
-pub returns-in-Refused : goal.returns-in-Refused
-returns-in-Refused c =
-    range-refused c.args.desk.now c.args.tree.now c.args.chapter c.args.first (c.args.end - c.args.first) c.args.draws.now c.args.out.now c.requires.1 c.pass_all.ensures c.in-Refused.is
+pub returns-in_err-pass_all : goal.returns-in_err-pass_all
+returns-in_err-pass_all c =
+    let p = err_from_is_err_and c.from_residual.result c.from_residual.ensures.1 in
+    rw (p.1, p.2) (range-refused c.args.desk.now c.args.tree.now c.args.chapter c.args.first (c.args.end - c.args.first) c.args.draws.now c.args.out.now c.requires.1 c.pass_all.ensures c.in_err-pass_all.was)
 
-pub returns-in-Done : goal.returns-in-Done
-returns-in-Done c =
-    range-printed c.args.desk.now c.args.tree.now c.args.chapter c.args.first (c.args.end - c.args.first) c.args.draws.now c.args.out.now c.requires.1 c.pass_all.ensures c.in-Done.is c.put.ensures.0
+pub returns : goal.returns
+returns c =
+    range-printed c.args.desk.now c.args.tree.now c.args.chapter c.args.first (c.args.end - c.args.first) c.args.draws.now c.args.out.now c.requires.1 c.pass_all.ensures c.in_ok-pass_all.was c.put.ensures.0
