@@ -21,11 +21,11 @@ pub returns-in-Bad : goal.returns-in-Bad
 returns-in-Bad c =
     text-bad c.args.desk.now c.args.tree.now c.args.chapter c.args.year c.args.first (c.args.end - c.args.first) c.args.draws.now c.args.text.now c.requires.1 c.take.ensures c.in-Bad.is
 
-pub returns-in_err-pass_all : goal.returns-in_err-pass_all
-returns-in_err-pass_all c =
+pub returns-in_err-pass_all-in-Good : goal.returns-in_err-pass_all-in-Good
+returns-in_err-pass_all-in-Good c =
     let p = err_from_is_err_and c.from_residual.result c.from_residual.ensures.1 in
-    rw (p.1, p.2) (text-good c.args.desk.now c.args.tree.now c.args.chapter c.args.year c.args.first (c.args.end - c.args.first) c.args.draws.now c.args.text.now c.requires.1 c.take.ensures c.in-Good.is c.pass_all.ensures c.in_err-pass_all.was)
+    rw (p.1, p.2) (text-good c.args.desk.now c.args.tree.now c.args.chapter c.args.year c.args.first (c.args.end - c.args.first) c.args.draws.now c.args.text.now c.requires.1 c.take.ensures c.in-Good.is c.pass_all.ensures c.in_err-pass_all-in-Good.was)
 
-pub returns : goal.returns
-returns c =
-    text-good c.args.desk.now c.args.tree.now c.args.chapter c.args.year c.args.first (c.args.end - c.args.first) c.args.draws.now c.args.text.now c.requires.1 c.take.ensures c.in-Good.is c.pass_all.ensures c.in_ok-pass_all.was
+pub returns-in_ok-pass_all-in-Good : goal.returns-in_ok-pass_all-in-Good
+returns-in_ok-pass_all-in-Good c =
+    text-good c.args.desk.now c.args.tree.now c.args.chapter c.args.year c.args.first (c.args.end - c.args.first) c.args.draws.now c.args.text.now c.requires.1 c.take.ensures c.in-Good.is c.pass_all.ensures c.in_ok-pass_all-in-Good.was
