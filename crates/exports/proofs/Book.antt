@@ -1,10 +1,9 @@
 -- What the verdict book's functions answer, by what was read, made and counted. Assumes nothing.
-use Rattle.verdicts.specs.Cells.{counted}
 use Rattle.sizes.specs.declared.Refusal.{Refusal}
-use Rattle.std.specs.Prelude.{None, Option, Some, Err, Result}
+use Rattle.std.specs.Prelude.{None, Option, Some, Ok, Err, Result}
 use Prim.Native.Nat.{ℕ, ◌^◌, ◌<◌}
-use mathlib.Core.Path.{◌≡◌, sym, ap, ◌∙◌}
-use mathlib.Core.Bool.{true, false}
+use mathlib.Core.Path.{◌≡◌, refl, sym, ap, ◌∙◌}
+use mathlib.Core.Bool.{Bool, true, false, cond}
 use mathlib.Core.List.{List}
 use lib.IntN.{ℤ, pos}
 use mir.Syntax.{w32}
@@ -14,7 +13,7 @@ use Rattle.verdicts.specs.declared.Entry.{Entry}
 use Rattle.verdicts.specs.declared.counts.Row.{Row}
 use Rattle.verdicts.specs.Verdict.{verdict_number, is_verdict, verdict_of, MakeResult, making, make_of}
 use Rattle.exports.specs.Codes.{Answered}
-use Rattle.exports.specs.BookCodes.{no_verdict, reading_code, said_of, said_or, made_of, made_code, row_code}
+use Rattle.exports.specs.BookCodes.{no_verdict, reading_code, said_of, said_or, made_of, made_code, row_code, complete_code, incomplete_code}
 use Rattle.exports.proofs.Signed.{code-back}
 
 -- ---- reading
@@ -69,5 +68,8 @@ module _ (verdict : ℕ) {due : MakeResult} {b : List ℕ} where
 pub row_back : (r : Result Row Refusal) {z : ℤ} → z ≡ row_code r → to_z w32 (of_z w32 z) ≡ row_code r
 unfolding row_code
 row_back (Err q) e = code-back q e
-row_back (counted c true) e = ap (λ (z : ℤ). to_z w32 (of_z w32 z)) e
-row_back (counted c false) e = ap (λ (z : ℤ). to_z w32 (of_z w32 z)) e
+row_back (Ok row) e = ap (λ (z : ℤ). to_z w32 (of_z w32 z)) e ∙ either row.complete
+  where
+    either : (b : Bool) → to_z w32 (of_z w32 (pos (cond b complete_code incomplete_code))) ≡ pos (cond b complete_code incomplete_code)
+    either true = refl
+    either false = refl

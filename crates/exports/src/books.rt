@@ -5,7 +5,8 @@ ghost use Rattle.book.specs.MatrixRow.{row_of};
 ghost use Rattle.exports.specs.Codes.{Answered};
 ghost use Rattle.exports.specs.BookCodes.{reading_code, said_or, made_of, made_code, row_code, counts_or, RowAnswers};
 
-use verdicts::Reading;
+use sizes::Refusal;
+use verdicts::Verdict;
 use verdicts::counts::Row;
 
 // The answer for a record that is bad or can't be made. The verdicts are 1 to 4: 0 is none of them, so that memory nobody wrote is never a verdict.
@@ -22,12 +23,11 @@ pub extern "C" fn bawnaroy_verdict_read(record: &[u8], said: &mut [u16; 3]) -> i
     ensures { Answered result said.new (reading_code (reading_of «record».now)) (said_or (reading_of «record».now) said.old) }
 {
     match verdicts::read(record) {
-        Reading::Good(entry) => {
-            let verdict = entry.verdict;
+        Some(entry) => {
             *said = [entry.chapter as u16, entry.year, entry.length as u16];
-            verdicts::number(verdict) as i32
+            u8::from(entry.verdict) as i32
         }
-        Reading::Bad => NO_VERDICT,
+        None => NO_VERDICT,
     }
 }
 
@@ -42,43 +42,36 @@ pub extern "C" fn bawnaroy_verdict_make(
 ) -> i32
     ensures { Answered result «record».new (made_code verdict (made_of «record».old verdict chapter year name.now).made) (made_of «record».old verdict chapter year name.now).buffer }
 {
-    if !verdicts::is_verdict(verdict) {
+    let Ok(v) = Verdict::try_from(verdict) else {
         return NO_VERDICT;
-    }
-    let v = verdicts::verdict_of(verdict);
+    };
     if !verdicts::make(record, v, chapter, year, name) {
         return NO_VERDICT;
     }
     verdict as i32
 }
 
-fn row_number(row: Row) -> i32
+fn row_number(row: Result<Row, Refusal>) -> i32
     ensures { result ≡ row_code row }
 {
     match row {
-        Row::Refused(q) => crate::refused(q),
-        Row::Counted {
-            counts: _,
-            complete,
-        } => {
-            if complete {
-                return COMPLETE;
-            }
-            INCOMPLETE
+        Ok(row) => {
+            if row.complete { COMPLETE } else { INCOMPLETE }
         }
+        Err(q) => crate::refused(q),
     }
 }
 
 // The counts that a row hands out. Beside a refusal it hands out none: what was lent stays.
-fn counts_or(row: Row, lent: [u16; 6]) -> [u16; 6]
+fn counts_or(row: Result<Row, Refusal>, lent: [u16; 6]) -> [u16; 6]
     ensures { result ≡ counts_or row lent }
 {
     match row {
-        Row::Refused(_) => lent,
-        Row::Counted {
-            counts: c,
-            complete: _,
-        } => { [c.passed, c.failed, c.skipped, c.errors, c.bad, c.not_run] }
+        Ok(row) => {
+            let c = row.counts;
+            [c.passed, c.failed, c.skipped, c.errors, c.bad, c.not_run]
+        }
+        Err(_) => lent,
     }
 }
 

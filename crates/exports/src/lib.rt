@@ -15,9 +15,8 @@ ghost use Rattle.chacha20.specs.ChaCha.{cipher};
 ghost use Rattle.tree.specs.Tree.{fetch_of, put_of};
 ghost use Rattle.exports.specs.Codes.{refusal_code, outcome_code, asked_code, finished_code, length_by, desk_length, Answered, Finishes};
 
-use asks::Asked;
 use desk::{Kind, Shape};
-use sizes::{Outcome, Refusal, Sizes};
+use sizes::{Refusal, Sizes};
 use store::Finished;
 
 pub mod books;
@@ -27,35 +26,35 @@ pub mod taps;
 fn refused(r: Refusal) -> i32
     ensures { result ≡ refusal_code r }
 {
-    -(sizes::number(r) as i32)
+    -(u8::from(r) as i32)
 }
 
-fn done(o: Outcome) -> i32
+fn done(o: Result<(), Refusal>) -> i32
     ensures { result ≡ outcome_code o }
 {
     match o {
-        Outcome::Done => 0,
-        Outcome::Refused(r) => refused(r),
+        Ok(()) => 0,
+        Err(r) => refused(r),
     }
 }
 
-fn asked(a: Asked) -> i32
+fn asked(a: Result<u16, Refusal>) -> i32
     ensures { (result ≡ asked_code a) × SFits w32 result }
 {
     match a {
-        Asked::Leaf(p) => p as i32,
-        Asked::Refused(r) => refused(r),
+        Ok(p) => p as i32,
+        Err(r) => refused(r),
     }
 }
 
-fn finished(f: Finished) -> i32
+fn finished(f: Result<Finished, Refusal>) -> i32
     ensures { (result ≡ finished_code f) × SFits w32 result }
 {
     match f {
-        Finished::Record => 1,
-        Finished::Never => 2,
-        Finished::Done => 3,
-        Finished::Refused(r) => refused(r),
+        Ok(Finished::Record) => 1,
+        Ok(Finished::Never) => 2,
+        Ok(Finished::Done) => 3,
+        Err(r) => refused(r),
     }
 }
 

@@ -5,7 +5,7 @@ ghost use Rattle.tap.specs.Tap.{read_of, write_of};
 ghost use Rattle.exports.specs.TapCodes.{trouble_code, taken_code, line_or, ReadAnswers, WriteAnswers};
 
 use taking::Trouble;
-use tap::{Printed, Taken};
+use tap::NotRead;
 
 // The answer for a text that was read.
 const READ: i32 = 0;
@@ -17,24 +17,24 @@ fn trouble_number(t: Trouble) -> i32
     -(taking::number(t) as i32)
 }
 
-fn taken_number(taken: Taken) -> i32
+fn taken_number(taken: Result<(), NotRead>) -> i32
     ensures { result ≡ taken_code taken }
 {
     match taken {
-        Taken::Done => READ,
-        Taken::Refused(q) => crate::refused(q),
-        Taken::Bad { trouble, line: _ } => trouble_number(trouble),
+        Ok(()) => READ,
+        Err(NotRead::Refused(q)) => crate::refused(q),
+        Err(NotRead::Bad { trouble, line: _ }) => trouble_number(trouble),
     }
 }
 
 // The line's number is handed out beside a text's refusal alone: otherwise what was lent stays.
-fn line_or(taken: Taken, lent: [u64; 1]) -> [u64; 1]
+fn line_or(taken: Result<(), NotRead>, lent: [u64; 1]) -> [u64; 1]
     ensures { result ≡ line_or taken lent }
 {
     match taken {
-        Taken::Done => lent,
-        Taken::Refused(_) => lent,
-        Taken::Bad { trouble: _, line } => [line as u64],
+        Ok(()) => lent,
+        Err(NotRead::Refused(_)) => lent,
+        Err(NotRead::Bad { trouble: _, line }) => [line as u64],
     }
 }
 
@@ -81,7 +81,7 @@ pub extern "C" fn bawnaroy_tap_write(
     ensures { WriteAnswers result desk.new tree.new out.new (write_of desk.old tree.old chapter first end draws.now out.old) }
 {
     match tap::write(desk, tree, chapter, first, end, draws, out) {
-        Printed::Length(n) => n as i32,
-        Printed::Refused(q) => crate::refused(q),
+        Ok(n) => n as i32,
+        Err(q) => crate::refused(q),
     }
 }

@@ -8,15 +8,15 @@ use Rattle.exports.proofs.Signed.{code-back, refusal-fits, plus-fits}
 use borrow.Author.Rules.{rules}
 use Rattle.exports.proofs.asked.Goals as goal
 
-pub returns-in-Leaf : goal.returns-in-Leaf
+pub returns-in-Ok : goal.returns-in-Ok
 unfolding asked_code
-returns-in-Leaf c =
-    let small : c.in-Leaf.p < 2 ^ 31 = search rules in
+returns-in-Ok c =
+    let small : c.in-Ok.p < 2 ^ 31 = search rules in
     let e = to_z_pos w32 small in
-    (e ∙ sym (ap asked_code c.in-Leaf.is), rw e (plus-fits c.in-Leaf.p small))
+    (e ∙ sym (ap asked_code c.in-Ok.is), rw e (plus-fits c.in-Ok.p small))
 
-pub returns-in-Refused : goal.returns-in-Refused
+pub returns-in-Err : goal.returns-in-Err
 unfolding asked_code
-returns-in-Refused c =
+returns-in-Err c =
     let e = code-back _ c.refused.ensures in
-    (e ∙ sym (ap asked_code c.in-Refused.is), rw e (refusal-fits _))
+    (e ∙ sym (ap asked_code c.in-Err.is), rw e (refusal-fits _))

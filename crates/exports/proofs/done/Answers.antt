@@ -4,10 +4,10 @@ use Rattle.exports.specs.Codes.{outcome_code}
 use Rattle.exports.proofs.Signed.{code-back}
 use Rattle.exports.proofs.done.Goals as goal
 
-pub returns-in-Done : goal.returns-in-Done
+pub returns-in-Ok : goal.returns-in-Ok
 unfolding outcome_code
-returns-in-Done c = sym (ap outcome_code c.in-Done.is)
+returns-in-Ok c = sym (ap outcome_code c.in-Ok.is)
 
-pub returns-in-Refused : goal.returns-in-Refused
+pub returns-in-Err : goal.returns-in-Err
 unfolding outcome_code
-returns-in-Refused c = code-back _ c.refused.ensures ∙ sym (ap outcome_code c.in-Refused.is)
+returns-in-Err c = code-back _ c.refused.ensures ∙ sym (ap outcome_code c.in-Err.is)

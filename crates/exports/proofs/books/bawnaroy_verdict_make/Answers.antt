@@ -8,23 +8,23 @@ use Rattle.exports.proofs.Book.{of_none, of-verdict, not_made, made}
 use borrow.Author.Rules.{rules}
 use Rattle.exports.proofs.books.bawnaroy_verdict_make.Goals as goal
 
-pub returns-then-not-is_verdict : goal.returns-then-not-is_verdict
-returns-then-not-is_verdict c =
+pub returns-in_default : goal.returns-in_default
+returns-in_default c =
     let a = c.args in
-    not_made a.verdict (of_none a.«record».now a.verdict a.chapter a.year a.name.now (sym c.is_verdict.ensures ∙ c.if-not-is_verdict.true))
+    not_made a.verdict (of_none a.«record».now a.verdict a.chapter a.year a.name.now c.in_default.ensures)
 
 pub returns-then-not-make : goal.returns-then-not-make
 returns-then-not-make c =
     let of-it : let a = c.args in made_of a.«record».now a.verdict a.chapter a.year a.name.now ≡ making c.make.result c.make.new.record = let a = c.args in
-    of-verdict a.«record».now a.verdict a.chapter a.year a.name.now (sym c.is_verdict.ensures ∙ c.if-not-is_verdict.false)
-    ∙ ap (λ (v : Verdict). make_of a.«record».now v a.chapter a.year a.name.now) (sym c.verdict_of-v.ensures)
+    of-verdict a.«record».now a.verdict a.chapter a.year a.name.now c.in-Ok.ensures.0
+    ∙ ap (λ (v : Verdict). make_of a.«record».now v a.chapter a.year a.name.now) (sym c.in-Ok.ensures.1)
     ∙ sym c.make.ensures in
     not_made c.args.verdict (of-it ∙ ap (λ (k : Bool). making k c.make.new.record) (c.if-not-make.true))
 
 pub returns : goal.returns
 returns c =
     let of-it : let a = c.args in made_of a.«record».now a.verdict a.chapter a.year a.name.now ≡ making c.make.result c.make.new.record = let a = c.args in
-    of-verdict a.«record».now a.verdict a.chapter a.year a.name.now (sym c.is_verdict.ensures ∙ c.if-not-is_verdict.false)
-    ∙ ap (λ (v : Verdict). make_of a.«record».now v a.chapter a.year a.name.now) (sym c.verdict_of-v.ensures)
+    of-verdict a.«record».now a.verdict a.chapter a.year a.name.now c.in-Ok.ensures.0
+    ∙ ap (λ (v : Verdict). make_of a.«record».now v a.chapter a.year a.name.now) (sym c.in-Ok.ensures.1)
     ∙ sym c.make.ensures in
     made c.args.verdict (search rules) (of-it ∙ ap (λ (k : Bool). making k c.make.new.record) (c.if-not-make.false))

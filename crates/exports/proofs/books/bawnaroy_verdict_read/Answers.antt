@@ -8,15 +8,15 @@ use Rattle.exports.proofs.Book.{read-good, read-bad}
 use borrow.Author.Rules.{rules}
 use Rattle.exports.proofs.books.bawnaroy_verdict_read.Goals as goal
 
-pub overflow_cast-said-in-Good : goal.overflow_cast-said-in-Good
-overflow_cast-said-in-Good c =
-    let good : reading_of c.args.«record».now ≡ Some c.in-Good.entry = sym c.read.ensures ∙ c.in-Good.is in
+pub overflow_cast-said-in-Some : goal.overflow_cast-said-in-Some
+overflow_cast-said-in-Some c =
+    let good : reading_of c.args.«record».now ≡ Some c.in-Some.entry = sym c.read.ensures ∙ c.in-Some.is in
     omega (arith, length-short _ _ good)
 
-pub returns-in-Good : goal.returns-in-Good
-returns-in-Good c =
-    let good : reading_of c.args.«record».now ≡ Some c.in-Good.entry = sym c.read.ensures ∙ c.in-Good.is in
-    read-good c.args.said.now _ good (search rules) c.number.ensures
+pub returns-in-Some : goal.returns-in-Some
+returns-in-Some c =
+    let good : reading_of c.args.«record».now ≡ Some c.in-Some.entry = sym c.read.ensures ∙ c.in-Some.is in
+    read-good c.args.said.now _ good (search rules) c.from.ensures
 
-pub returns-in-Bad : goal.returns-in-Bad
-returns-in-Bad c = read-bad c.args.said.now (sym c.read.ensures ∙ c.in-Bad.is)
+pub returns-in-None : goal.returns-in-None
+returns-in-None c = read-bad c.args.said.now (sym c.read.ensures ∙ c.in-None.is)

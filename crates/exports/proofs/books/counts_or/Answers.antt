@@ -6,10 +6,10 @@ use Rattle.verdicts.specs.declared.counts.Row.{Row}
 use Rattle.exports.specs.BookCodes.{counts_or}
 use Rattle.exports.proofs.books.counts_or.Goals as goal
 
-pub returns-in-Refused : goal.returns-in-Refused
+pub returns-in-Err : goal.returns-in-Err
 unfolding counts_or
-returns-in-Refused c = sym (ap (λ (r : Result Row Refusal). counts_or r c.args.lent) c.in-Refused.is)
+returns-in-Err c = sym (ap (λ (r : Result Row Refusal). counts_or r c.args.lent) c.in-Err.is)
 
-pub returns-in-Counted : goal.returns-in-Counted
+pub returns-in-Ok : goal.returns-in-Ok
 unfolding counts_or
-returns-in-Counted c = sym (ap (λ (r : Result Row Refusal). counts_or r c.args.lent) c.in-Counted.is)
+returns-in-Ok c = sym (ap (λ (r : Result Row Refusal). counts_or r c.args.lent) c.in-Ok.is)

@@ -12,29 +12,29 @@ use Rattle.exports.proofs.taps.bawnaroy_tap_write.Goals as goal
 
 pub overflow_cast-result : goal.overflow_cast-result
 overflow_cast-result c =
-    let small : c.in-Length.n < 2 ^ 31 = write-short _ _ _ _ _ _ _ _ _ _ _ (omega (arith, c.ranges.end)) c.write.auto.out
-    c.in-Length.is c.write.ensures in
-    plus-fits c.in-Length.n small
+    let small : c.in-Ok.n < 2 ^ 31 = write-short _ _ _ _ _ _ _ _ _ _ _ (omega (arith, c.ranges.end)) c.write.auto.out
+    c.in-Ok.is c.write.ensures in
+    plus-fits c.in-Ok.n small
 
-pub returns-in-Length : goal.returns-in-Length
+pub returns-in-Ok : goal.returns-in-Ok
 unfolding printed_code
-returns-in-Length c =
-    let small : c.in-Length.n < 2 ^ 31 = write-short _ _ _ _ _ _ _ _ _ _ _ (omega (arith, c.ranges.end)) c.write.auto.out
-    c.in-Length.is c.write.ensures in
+returns-in-Ok c =
+    let small : c.in-Ok.n < 2 ^ 31 = write-short _ _ _ _ _ _ _ _ _ _ _ (omega (arith, c.ranges.end)) c.write.auto.out
+    c.in-Ok.is c.write.ensures in
     let e = c.write.ensures in
     record {
-      number_is = to_z_pos w32 small ∙ sym (ap printed_code c.in-Length.is) ∙ ap (λ (t : WriteResult). printed_code t.answer) e;
+      number_is = to_z_pos w32 small ∙ sym (ap printed_code c.in-Ok.is) ∙ ap (λ (t : WriteResult). printed_code t.answer) e;
       desk_is = ap (λ (t : WriteResult). t.desk) e;
       tree_is = ap (λ (t : WriteResult). t.tree) e;
       out_is = ap (λ (t : WriteResult). t.out) e;
     }
 
-pub returns-in-Refused : goal.returns-in-Refused
+pub returns-in-Err : goal.returns-in-Err
 unfolding printed_code
-returns-in-Refused c =
+returns-in-Err c =
     let e = c.write.ensures in
     record {
-      number_is = code-back _ c.refused.ensures ∙ sym (ap printed_code c.in-Refused.is) ∙ ap (λ (t : WriteResult). printed_code t.answer) e;
+      number_is = code-back _ c.refused.ensures ∙ sym (ap printed_code c.in-Err.is) ∙ ap (λ (t : WriteResult). printed_code t.answer) e;
       desk_is = ap (λ (t : WriteResult). t.desk) e;
       tree_is = ap (λ (t : WriteResult). t.tree) e;
       out_is = ap (λ (t : WriteResult). t.out) e;
