@@ -29,7 +29,7 @@ accept-never q h = let z : ◌≡◌ {A = ℕ} 0 1 = cc in omega arith
 pub accept-done : Accepted (Ok finished.Done)
 accept-done q h = let z : ◌≡◌ {A = ℕ} 0 1 = cc in omega arith
 
-pub answer-accepted : (kind : Kind) (marked : Bool) → Accepted (answer_for kind marked)
+pub answer-accepted : (kind : Kind) (marked : Bool) → Accepted (Ok (answer_for kind marked))
 answer-accepted Read true = accept-record
 answer-accepted Read false = accept-never
 answer-accepted Write marked = accept-done
@@ -38,7 +38,7 @@ pub finished-refused : (o : Result Unit Refusal) (kind : Kind) (marked : Bool) (
 finished-refused (Err r) kind marked q h = cc
 finished-refused (Ok tt) kind marked q h = absurd (answer-accepted kind marked q h)
 
-pub finished-done : (o : Result Unit Refusal) (a : Result Finished Refusal) → Accepted (finished_or o a) → o ≡ Ok tt
+pub finished-done : (o : Result Unit Refusal) (a : Finished) → Accepted (finished_or o a) → o ≡ Ok tt
 finished-done (Err r) a h = absurd (h r refl)
 finished-done (Ok tt) a h = refl
 

@@ -1,5 +1,7 @@
 -- Rows of the verdict book, on every input: the counts add up to the range's length, a refusal before any ask changes nothing, and no read is answered
 -- by Done. Assumes nothing.
+use Rattle.promises.proofs.RequestAnswers.{came_in}
+use Rattle.store.specs.declared.Finished.{Finished}
 use Rattle.verdicts.specs.Cells.{counted}
 use Rattle.std.specs.Prelude.{Err, Ok, Result}
 use Prim.Native.Nat.{ℕ, suc, ◌+◌, ◌-◌}
@@ -25,7 +27,7 @@ use Rattle.asks.proofs.Opened.{opened-kind}
 use Rattle.store.specs.declared.Finished.TheVariants as finished
 use Rattle.store.specs.Steps.{answer_for, was_marked}
 use Rattle.store.specs.Finish.{finished_or, finish_of, finish_checked}
-use Rattle.requests.specs.Request.{finished_by, asked_for, request_of}
+use Rattle.requests.specs.Request.{Answered, finished_by, asked_for, request_of}
 use Rattle.verdicts.specs.declared.counts.Cell.{Cell}
 use Rattle.verdicts.specs.declared.counts.Counts.{Counts}
 use Rattle.verdicts.specs.declared.counts.Row.{Row}
@@ -62,10 +64,19 @@ was-done desk tree chapter first end draws c complete h = go (row_checked desk t
 abbrev Adds : ℕ → Counts → List ℕ → Result Row Refusal → Type 0
 Adds n c xs a = (c' : Counts) (complete : Bool) → a ≡ counted c' complete → (sum c' ≡ sum c + length xs) × (complete ≡ eqb c'.passed n)
 
+-- what a counted row says; of a refusal, anything
+abbrev pub row_counts : Result Row Refusal → Counts
+row_counts (Ok row) = row.counts
+row_counts (Err q) = no_counts
+
+abbrev row_complete : Result Row Refusal → Bool
+row_complete (Ok row) = row.complete
+row_complete (Err q) = false
+
 adds_none : (n : ℕ) (c : Counts) → Adds n c [] (counted_of n c)
 adds_none n c c' complete h =
-    let e : c ≡ c' = cc in
-    let k : eqb c.passed n ≡ complete = cc in
+    let e : c ≡ c' = ap row_counts h in
+    let k : eqb c.passed n ≡ complete = ap row_complete h in
     (ap sum (sym e) ∙ omega arith, sym k ∙ ap (λ (z : Counts). eqb z.passed n) e)
 
 adds_one : (n : ℕ) (c : Counts) (x : ℕ) (xs : List ℕ) (r : ReadResult) (more : Cell → RunResult)
@@ -93,9 +104,12 @@ not_done (Ok tt) false h = let z : ◌≡◌ {A = ℕ} 0 1 = cc in omega arith
 
 finished-not : (o : Result Unit Refusal) (s : Sizes) (x : ℕ) (desk tree path buffer : List ℕ) (p : ℕ) → kind_asked desk ≡ Read
     → (finished_by o s x desk tree path buffer).answer ≢ Ok (p, Ok finished.Done)
-finished-not (Err q) s x desk tree path buffer p k h = let z : ◌≡◌ {A = ℕ} 0 1 = cc in omega arith
+finished-not (Err q) s x desk tree path buffer p k h =
+    let e : ◌≡◌ {A = Result Finished Refusal} (Err q) (Ok finished.Done) = ap came_in h in
+    let z : ◌≡◌ {A = ℕ} 0 1 = cc in
+    omega arith
 finished-not (Ok tt) s x desk tree path buffer p k h =
-    let e : (finish_of real desk path buffer).answer ≡ Ok finished.Done = cc in
+    let e : (finish_of real desk path buffer).answer ≡ Ok finished.Done = ap came_in h in
     let c = finish_checked real desk path buffer in
     not_done c (was_marked real desk path) (ap (λ (z : Kind). finished_or c (answer_for z (was_marked real desk path))) (sym k) ∙ e)
 
@@ -107,7 +121,7 @@ read-not desk tree path buffer id draw p e = go (ask_of desk Read id draw buffer
 
     go : (a : Result ℕ Refusal) → (ask_of desk Read id draw buffer).answer ≡ a → ⊥
     go (Err q) h =
-        let w : Err q ≡ Ok (p, Ok finished.Done) = sym (ap (λ (a : Result ℕ Refusal). (asked_for a d tree path buffer).answer) h) ∙ e in
+        let w : ◌≡◌ {A = Answered} (Err q) (Ok (p, Ok finished.Done)) = sym (ap (λ (a : Result ℕ Refusal). (asked_for a d tree path buffer).answer) h) ∙ e in
         let z : ◌≡◌ {A = ℕ} 0 1 = cc in
         omega arith
     go (Ok x) h =

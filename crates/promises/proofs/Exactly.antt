@@ -93,13 +93,13 @@ module _ (m : Means) (desk path : List ℕ) where
           (λ e. comes (Err Forged) (rows false (worn m desk path) full e refl refl)),
     )
       where
-        other : Err Worn ≡ Err Forged → ⊥
+        other : ◌≡◌ {A = Result Unit Refusal} (Err Worn) (Err Forged) → ⊥
         other z = let y : ◌≡◌ {A = ℕ} 0 1 = cc in omega arith
 
-        other₂ : Err Full ≡ Err Forged → ⊥
+        other₂ : ◌≡◌ {A = Result Unit Refusal} (Err Full) (Err Forged) → ⊥
         other₂ z = let y : ◌≡◌ {A = ℕ} 0 1 = cc in omega arith
 
-        other₃ : (Ok tt) ≡ Err Forged → ⊥
+        other₃ : ◌≡◌ {A = Result Unit Refusal} (Ok tt) (Err Forged) → ⊥
         other₃ z = let y : ◌≡◌ {A = ℕ} 0 1 = cc in omega arith
 
     module _ (g : Genuine m desk path) where
@@ -116,10 +116,10 @@ module _ (m : Means) (desk path : List ℕ) where
         λ w. comes (Err Worn) (past true full (out-worn w) refl),
       )
         where
-          other : Err Full ≡ Err Worn → ⊥
+          other : ◌≡◌ {A = Result Unit Refusal} (Err Full) (Err Worn) → ⊥
           other z = let y : ◌≡◌ {A = ℕ} 0 1 = cc in omega arith
 
-          other₂ : (Ok tt) ≡ Err Worn → ⊥
+          other₂ : ◌≡◌ {A = Result Unit Refusal} (Ok tt) (Err Worn) → ⊥
           other₂ z = let y : ◌≡◌ {A = ℕ} 0 1 = cc in omega arith
 
       full-exactly : (answer ≡ Err Full) ↔ ((WornOut m desk path → ⊥) × (room_of desk < length (new_stash m desk path)))
@@ -134,10 +134,10 @@ module _ (m : Means) (desk path : List ℕ) where
         λ k. by_cases (worn m desk path) (λ w. absurd (k.0 (worn-out w))) (λ w. comes (Err Full) (past false true w (lt-ltb _ _ k.1))),
       )
         where
-          other : Err Worn ≡ Err Full → ⊥
+          other : ◌≡◌ {A = Result Unit Refusal} (Err Worn) (Err Full) → ⊥
           other z = let y : ◌≡◌ {A = ℕ} 0 1 = cc in omega arith
 
-          other₂ : (Ok tt) ≡ Err Full → ⊥
+          other₂ : ◌≡◌ {A = Result Unit Refusal} (Ok tt) (Err Full) → ⊥
           other₂ z = let y : ◌≡◌ {A = ℕ} 0 1 = cc in omega arith
 
       else-accepted : (WornOut m desk path → ⊥) → length (new_stash m desk path) ≤ room_of desk → Accepted answer

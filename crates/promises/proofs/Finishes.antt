@@ -1,5 +1,6 @@
 -- The laws of one call hold of our store: a good desk stays good, and what one finish hands back and leaves. Assumes nothing but what is asked of digest
 -- and cipher.
+use Rattle.store.specs.declared.Finished.{Finished}
 use Rattle.std.specs.Prelude.{Err, Ok, Result}
 use Prim.Native.Nat.{ℕ, zero, suc, ◌<◌, ◌≤◌}
 use mathlib.Core.Path.{◌≡◌, refl, sym, ap, ap₂, subst, ◌∙◌}
@@ -116,10 +117,13 @@ lookup-one u (x ∷ xs) b h =
     (λ e. rw e (lookup-one u xs b (rw e at h)))
 
 -- a record is answered to a read of a marked id
-record-read : (kind : Kind) (marked : Bool) → answer_for kind marked ≡ Ok finished.Record → (kind ≡ Read) × (marked ≡ true)
+record-read : (kind : Kind) (marked : Bool) → answer_for kind marked ≡ finished.Record → (kind ≡ Read) × (marked ≡ true)
 record-read Read true h = (refl, refl)
 record-read Read false h = let z : ◌≡◌ {A = ℕ} 0 1 = cc in absurd (omega arith)
 record-read Write marked h = let z : ◌≡◌ {A = ℕ} 0 1 = cc in absurd (omega arith)
+
+same_done : {p q : Finished} → ◌≡◌ {A = Result Finished Refusal} (Ok p) (Ok q) → p ≡ q
+same_done h = cc
 
 -- what is written and then put back
 set_back : (xs : List ℕ) (i a : ℕ) → set (set xs i a) i (get_or xs i 0) ≡ xs
@@ -134,7 +138,7 @@ module _ (m : Means) (o : Sound m) (desk path buffer : List ℕ) where
       by_cases (genuine m desk path) (genuine-checks m desk path)
       (λ e. absurd (other (sym (((exactly m).forged desk path buffer r).1 (λ g. no_true (sym (checks-genuine m desk path g) ∙ e))) ∙ h)))
     where
-      other : Err Forged ≡ Err q → ⊥
+      other : ◌≡◌ {A = Result Finished Refusal} (Err Forged) (Err q) → ⊥
       other e = let f : Forged ≡ q = cc in omega (arith, ap number_of f)
 
   restores : (q : Refusal) → 9 ≤ number_of q → (finish_of m desk path buffer).answer ≡ Err q
@@ -201,7 +205,7 @@ each_finish m o =
     hands : (desk path buffer : List ℕ) → room_of desk < 256 → (finish_of m desk path buffer).answer ≡ Ok finished.Record → HandsBack m desk path (finish_of m desk path buffer).buffer
     hands desk path buffer byte h =
         let d : finish_checked m desk path buffer ≡ Ok tt = finished-done (finish_checked m desk path buffer) _ (λ q k. accept-record q (sym h ∙ k)) in
-        let r = record-read (kind_asked desk) (was_marked m desk path) (sym (ap (λ (c : Result Unit Refusal). finished_or c (answer_for (kind_asked desk) (was_marked m desk path))) d) ∙ h) in
+        let r = record-read (kind_asked desk) (was_marked m desk path) (same_done (sym (ap (λ (c : Result Unit Refusal). finished_or c (answer_for (kind_asked desk) (was_marked m desk path))) d) ∙ h)) in
         let e : (finish_of m desk path buffer).buffer ≡ record_found m desk path =
         rw d (ap₂ (λ (k : Kind) (w : Bool). buffer_for k w (record_found m desk path) buffer) r.0 r.1) in
         subst (λ (x : List ℕ). HandsBack m desk path x) (sym e) (hands-new m o desk path buffer byte d r.1)

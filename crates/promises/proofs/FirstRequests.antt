@@ -1,4 +1,7 @@
 -- The first request on a fresh store, of any kind, is accepted, and answers as an empty table does. Assumes nothing.
+use Rattle.sizes.specs.declared.Refusal.{Refusal}
+use Rattle.store.specs.declared.Finished.{Finished}
+use Rattle.std.specs.Prelude.{Result}
 use Rattle.std.specs.Prelude.{Ok}
 use Prim.Native.Nat.{ℕ, ◌+◌, ◌-◌, ◌<◌, ◌≤◌}
 use mathlib.Core.Path.{◌≡◌, refl, sym, ap, subst, ◌∙◌}
@@ -86,10 +89,10 @@ module _ (b : Start) (lent : List ℕ) (p : Proper b lent) (tree : List ℕ) (si
         (record { id_low = low; id_high = high; leaf_low = leaf; fits = request.record-fits kind buffer long }) got buffer
         (request.got-length b byte ts reached path buffer kind id draw fit) long)
 
-    pub first-answer : (request_for ts path buffer kind id draw).answer ≡ Ok ((ts.state.drawn id), plain_answer kind none)
+    pub first-answer : (request_for ts path buffer kind id draw).answer ≡ Ok (ts.state.drawn id, Ok (plain_answer kind none))
     first-answer =
         let byte = p.room_byte in
         ap (λ (z : RequestResult). z.answer) (request.request-is b byte ts reached path buffer kind id draw fit)
-        ∙ ap (answered_Asked (ts.state.drawn id))
+        ∙ ap (λ (f : Result Finished Refusal). Ok (ts.state.drawn id, f))
         ((request.one_kept b byte ts reached path buffer kind id draw fit).plain (request.got b byte ts reached path buffer kind id draw fit) buffer
         (request.handed b byte ts reached path buffer kind id draw fit) finishes (as_request kind id draw buffer) refl).0

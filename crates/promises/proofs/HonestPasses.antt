@@ -51,7 +51,7 @@ module _ (b : Start) (table : Table) (id : ℕ) (entry : List ℕ) where
           not_forged = λ h. not-refused Forged (sym h);
         }
 
-    refused-is : (q : Refusal) → Stands b table d t → Err q ≢ Err Forged → EntryIs (requested_entry (Err q) d t p now)
+    refused-is : (q : Refusal) → Stands b table d t → ◌≢◌ {A = Result Unit Refusal} (Err q) (Err Forged) → EntryIs (requested_entry (Err q) d t p now)
     refused-is q s n =
         record {
           done = λ h. absurd (not-refused q h);

@@ -38,7 +38,7 @@ read_same (Err q) id content table u = refl
 -- ---- what is found, by what the finish answered
 
 cell-of : (chapter : ℕ) (held : Option (List ℕ)) (buffer now : List ℕ) (f : Result Finished Refusal)
-    → (Accepted f → (f ≡ plain_answer Read held) × (now ≡ plain_buffer Read held buffer))
+    → (Accepted f → (f ≡ Ok (plain_answer Read held)) × (now ≡ plain_buffer Read held buffer))
     → (cell : Cell) → found_of chapter f now ≡ Ok cell → cell ≡ table_cell chapter held
 cell-of chapter none buffer now (Ok finished.Record) w cell h =
     let e = (w accept-record).0 in

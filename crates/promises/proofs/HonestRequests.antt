@@ -88,7 +88,7 @@ ask-low desk kind id leaf buffer q h =
     (low-refusal (ask_rows desk kind id leaf buffer) (lit< tt, (lit< tt, (lit< tt, (lit< tt, (lit< tt, (lit< tt, tt)))))) q
     (asked-refused (ask_checked desk kind id leaf buffer) (position_of desk id) q h))
 
-pub same-refusal : (p q : Refusal) → Err p ≡ Err q → p ≡ q
+pub same-refusal : (p q : Refusal) → ◌≡◌ {A = Result Unit Refusal} (Err p) (Err q) → p ≡ q
 same-refusal p q h = cc
 
 pub finish-refused : (f : Result Finished Refusal) (q : Refusal) → finished_outcome f ≡ Err q → f ≡ Err q
@@ -102,7 +102,7 @@ finish-refused (Err r) q h = ap Err (same-refusal r q h)
 -- an accepted finish answers as the plain table does, and the buffer holds what the table's would
 abbrev pub Plain : Answered → Kind → Option (List ℕ) → List ℕ → List ℕ → Type 0
 Plain (Err q) kind held buffer now = Unit {0}
-Plain (Ok (p, f)) kind held buffer now = Accepted f → (f ≡ plain_answer kind held) × (now ≡ plain_buffer kind held buffer)
+Plain (Ok (p, f)) kind held buffer now = Accepted f → (f ≡ Ok (plain_answer kind held)) × (now ≡ plain_buffer kind held buffer)
 
 pub record RequestIs (b : Start) (table : Table) (kind : Kind) (id : ℕ) (buffer : List ℕ) (a : Answered) (desk tree now : List ℕ) : Type 0 where
   pub stands : Stands b (table_by a kind id buffer table) desk tree

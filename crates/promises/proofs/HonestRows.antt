@@ -23,7 +23,7 @@ use Rattle.book.proofs.Passed.{row-passed}
 use Rattle.promises.specs.Stores.{ours, Start}
 use Rattle.promises.specs.Trees.{TreeState, TreeReached}
 use Rattle.promises.specs.Rows.{table_cell, table_counts, PassHeld, row_in, LeavesTable, CountsTable, HonestRows}
-use Rattle.promises.proofs.BookRows.{not-counted, run_of, was-done, any_row}
+use Rattle.promises.proofs.BookRows.{row_counts, not-counted, run_of, was-done, any_row}
 use Rattle.promises.proofs.TableRows.{pass-held, held-pass, all-passed, passed-all}
 use Rattle.promises.proofs.HonestRequests.{Stands, here}
 use Rattle.promises.proofs.HonestReads.{ReadIs, read_is, row_low}
@@ -57,7 +57,7 @@ module _ (b : Start) (byte : b.room < 256) (table : Table) where
         let j : k ≡ m = omega arith in
         record {
           stands = s;
-          counted = λ c' complete h. let g : c' ≡ c = cc in g ∙ e ∙ ap (table_counts chapter table first) j;
+          counted = λ c' complete h. ap row_counts (sym h) ∙ e ∙ ap (table_counts chapter table first) j;
           not_forged = λ h. let z : ◌≡◌ {A = ℕ} 0 1 = cc in omega arith;
         }
     run_is id (x ∷ xs) c desk tree path buffer k s i e l =

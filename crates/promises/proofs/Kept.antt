@@ -113,14 +113,14 @@ module _ (m : Means) (o : Sound m) (b : Start) (byte : b.room < 256) (st : State
       through = done-through m desk path buffer is-done
 
       plain-is : (r : Request) → st.open_request ≡ some r
-          → (answer ≡ plain_answer r.kind (st.table r.id)) × ((finish_of m desk path buffer).buffer ≡ plain_buffer r.kind (st.table r.id) buffer)
+          → (answer ≡ Ok (plain_answer r.kind (st.table r.id))) × ((finish_of m desk path buffer).buffer ≡ plain_buffer r.kind (st.table r.id) buffer)
       plain-is r e =
           let q = v.opens through.ready.status in
           let f : q.request ≡ r = same-request q.request r (sym q.is ∙ e) in
           let k : kind_asked desk ≡ r.kind = q.holds.kind ∙ ap (λ (x : Request). x.kind) f in
           let i : id_asked desk ≡ r.id = q.holds.id ∙ ap (λ (x : Request). x.id) f in
           let p = answers-plain m desk path st.server st.table v.inv (asks_of desk v.good through.ready.status) fair buffer in (
-            rw is-done (p.0 ∙ ap₂ (λ (x : Kind) (u : ℕ). plain_answer x (st.table u)) k i),
+            rw is-done (ap Ok (p.0 ∙ ap₂ (λ (x : Kind) (u : ℕ). plain_answer x (st.table u)) k i)),
             rw is-done (p.1 ∙ ap₂ (λ (x : Kind) (u : ℕ). plain_buffer x (st.table u) buffer) k i),
           )
 

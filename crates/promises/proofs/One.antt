@@ -1,4 +1,5 @@
 -- Demand 1 holds of our store. Assumes nothing.
+use Rattle.std.specs.Prelude.{Ok}
 use Rattle.std.specs.Prelude.{Err, Result}
 use Prim.Native.Nat.{ℕ}
 use mathlib.Core.Path.{◌≡◌, refl, sym, ap, ◌∙◌}
@@ -31,7 +32,7 @@ use Rattle.promises.specs.DemandOne.{OnlyStatus, ByRows, One, DemandOne}
 use Rattle.promises.proofs.Rows.{reads}
 use Rattle.promises.proofs.Answers.{finished-refused, asked-refused}
 
-answer-number : (kind : Kind) (marked : Bool) → (finished_value (answer_for kind marked)).0 ≡ 0
+answer-number : (kind : Kind) (marked : Bool) → (finished_value (Ok (answer_for kind marked))).0 ≡ 0
 answer-number Read true = refl
 answer-number Read false = refl
 answer-number Write marked = refl

@@ -1,4 +1,5 @@
 -- What is known of a desk and a path where finish got past its first four rows. Assumes nothing.
+use Rattle.std.specs.Prelude.{Result}
 use Rattle.std.specs.Prelude.{Err, Ok}
 use Prim.Native.Nat.{ℕ, ◌≤◌}
 use mathlib.Core.Path.{◌≡◌, refl, ap}
@@ -26,7 +27,7 @@ use Rattle.store.specs.Finish.{finish_rows, finish_checked}
 use Rattle.keeping.proofs.MovedStep.{Checked}
 use Rattle.promises.specs.DemandTwo.{Ready}
 
-same_number : (p q : Refusal) → Err p ≡ Err q → number_of p ≡ number_of q
+same_number : (p q : Refusal) → ◌≡◌ {A = Result Unit Refusal} (Err p) (Err q) → number_of p ≡ number_of q
 same_number p q e = let f : p ≡ q = cc in ap number_of f
 
 -- a refusal of number 9 or more comes after these four

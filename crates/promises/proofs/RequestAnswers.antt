@@ -12,8 +12,17 @@ use Rattle.items.specs.Real.{real}
 use Rattle.tree.specs.Tree.{fetch_of}
 use Rattle.asks.specs.Ask.{ask_of}
 use Rattle.store.specs.declared.Finished.{Finished}
-use Rattle.requests.specs.Request.{finished_by, asked_for, request_of}
+use Rattle.requests.specs.Request.{Answered, finished_by, asked_for, request_of}
 use Rattle.promises.proofs.One.{demand-one}
+
+-- the leaf of an answer, and what came of its finish
+abbrev pub leaf_in : Answered → ℕ
+leaf_in (Ok (leaf, f)) = leaf
+leaf_in (Err q) = 0
+
+abbrev pub came_in : Answered → Result Finished Refusal
+came_in (Ok (leaf, f)) = f
+came_in (Err q) = Err q
 
 asked-not : (o : Result Unit Refusal) (s : Sizes) (p : ℕ) (desk tree path buffer : List ℕ) (q : Refusal) → (finished_by o s p desk tree path buffer).answer ≡ Err q → ⊥
 asked-not (Ok tt) s p desk tree path buffer q h = let z : ◌≡◌ {A = ℕ} 0 1 = cc in omega arith
@@ -31,7 +40,7 @@ was-refused desk tree path buffer kind id leaf q e = go (ask_of desk kind id lea
         (asked-not (fetch_of (sizes_of x) p tree path).answer (sizes_of x) p x tree (fetch_of (sizes_of x) p tree path).path buffer q
         (sym (ap (λ (a : Result ℕ Refusal). (asked_for a x tree path buffer).answer) h) ∙ e))
     go (Err r) h =
-        let w : Err r ≡ Err q =
+        let w : ◌≡◌ {A = Answered} (Err r) (Err q) =
         sym (ap (λ (a : Result ℕ Refusal). (asked_for a (ask_of desk kind id leaf buffer).desk tree path buffer).answer) h) ∙ e in
         h ∙ cc
 
@@ -42,7 +51,7 @@ was-asked desk tree path buffer kind id leaf p f e = go (ask_of desk kind id lea
     go : (a : Result ℕ Refusal) → (ask_of desk kind id leaf buffer).answer ≡ a → (x : ℕ) × ((ask_of desk kind id leaf buffer).answer ≡ Ok x)
     go (Ok x) h = (x, h)
     go (Err q) h =
-        let w : Err q ≡ Ok (p, f) =
+        let w : ◌≡◌ {A = Answered} (Err q) (Ok (p, f)) =
         sym (ap (λ (a : Result ℕ Refusal). (asked_for a (ask_of desk kind id leaf buffer).desk tree path buffer).answer) h) ∙ e in
         let z : ◌≡◌ {A = ℕ} 0 1 = cc in
         absurd (omega arith)

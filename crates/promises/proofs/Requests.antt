@@ -1,5 +1,5 @@
 -- One whole request is two turns, in every state that a formatted desk and a tree get to. Assumes nothing.
-use Rattle.std.specs.Prelude.{Err, Ok, Result}
+use Rattle.std.specs.Prelude.{Err, Ok, Result, is_err}
 use Rattle.sizes.specs.declared.Refusal.{Refusal}
 use Prim.Native.Nat.{ℕ, ◌<◌}
 use mathlib.Core.Path.{◌≡◌, refl, sym, ap, ap₂, subst, ◌∙◌}
@@ -26,13 +26,13 @@ use Rattle.asks.proofs.Opened.{opened-changed}
 use Rattle.store.specs.declared.Finished.{Finished}
 use Rattle.store.specs.declared.Finished.TheVariants as finished
 use Rattle.store.specs.Finish.{FinishResult, finish_of, finish_checked, finish_by}
-use Rattle.requests.specs.Request.{RequestResult, put_unless, returned, finished_by, fetched_for, asked_for}
+use Rattle.requests.specs.Request.{Answered, RequestResult, put_unless, returned, finished_by, fetched_for, asked_for}
 use Rattle.promises.specs.Stores.{Store, ours, Start, Request}
 use Rattle.promises.specs.Steps.{State, begin, after_ask, after_finish}
 use Rattle.promises.specs.Trees.{TreeState, Turn, asking, put_if, turn, turns, TreeReached, fetched_by, TreeKept}
 use Rattle.promises.specs.Requests.{as_request, two_turns, request_for, table_as, AsTurns, WholeRequests}
 use Rattle.promises.proofs.Answers.{asked_leaf}
-use Rattle.promises.proofs.RequestAnswers.{refuses}
+use Rattle.promises.proofs.RequestAnswers.{refuses, leaf_in, came_in}
 use Rattle.promises.proofs.TreeHolds.{fits-checked}
 use Rattle.promises.proofs.Trees.{Both, range, leaf_low, reached-both, demand-two-tree}
 
@@ -202,14 +202,14 @@ asked-only b byte ts r path buffer kind id leaf p g e = go (ask_of ts.state.desk
   where
     go : (a : Result ℕ Refusal) → (ask_of ts.state.desk kind id leaf buffer).answer ≡ a → AsTurns b ts path buffer kind id leaf p g
     go (Ok p') h =
-        let w : Ok (p', (f b byte ts r path buffer kind id leaf p' h)).answer ≡ Ok (p, g) =
+        let w : ◌≡◌ {A = Answered} (Ok (p', (f b byte ts r path buffer kind id leaf p' h).answer)) (Ok (p, g)) =
         sym (ap (λ (x : RequestResult). x.answer) (request-is b byte ts r path buffer kind id leaf p' h)) ∙ e in
-        let i : p' ≡ p = cc in
-        let j : (f b byte ts r path buffer kind id leaf p' h).answer ≡ g = cc in
+        let i : p' ≡ p = ap leaf_in w in
+        let j : (f b byte ts r path buffer kind id leaf p' h).answer ≡ g = ap came_in w in
         subst (λ (x : ℕ). AsTurns b ts path buffer kind id leaf x g) i
         (subst (λ (x : Result Finished Refusal). AsTurns b ts path buffer kind id leaf p' x) j (as_turns b byte ts r path buffer kind id leaf p' h))
     go (Err q) h =
-        let w : Err q ≡ Ok (p, g) =
+        let w : ◌≡◌ {A = Answered} (Err q) (Ok (p, g)) =
         sym (ap (λ (a : Result ℕ Refusal). (asked_for a (ask_of ts.state.desk kind id leaf buffer).desk ts.tree path buffer).answer) h) ∙ e in
         let z : ◌≡◌ {A = ℕ} 0 1 = cc in
         absurd (omega arith)

@@ -16,7 +16,7 @@ use Rattle.promises.specs.DemandOne.{First, ByRows}
 abbrev at : List (Bool × Refusal) → ℕ → Bool × Refusal
 at rows i = get_or rows i (false, BadDesk)
 
-same-refusal : (p q : Refusal) → Err p ≡ Err q → p ≡ q
+same-refusal : (p q : Refusal) → ◌≡◌ {A = Result Unit Refusal} (Err p) (Err q) → p ≡ q
 same-refusal p q e = cc
 
 first-of : (rows : List (Bool × Refusal)) (q : Refusal) → first_of rows ≡ Err q → First rows q

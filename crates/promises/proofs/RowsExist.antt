@@ -29,9 +29,9 @@ module _ (b : Start) (lent : List ℕ) (p : Proper b lent) (room : 1 ≤ b.room)
   abbrev desk : List ℕ
   desk = (format_for b lent).desk
 
-  counted : (run_of desk tree chapter id (id + 1) (draw ∷ [])).answer ≡ counted (plus NotRun no_counts) false
+  counted-once : (run_of desk tree chapter id (id + 1) (draw ∷ [])).answer ≡ counted (plus NotRun no_counts) false
   unfolding row_from read_of
-  counted =
+  counted-once =
       let r = request_for (fresh.ts b lent p tree size) (fresh.path b lent p tree size) (zeros record_len) Read id draw in
       let more : Cell → RunResult = λ cell. row_from chapter (id + 1 - id) (id + 1) [] (plus cell no_counts) r.desk r.tree r.path r.buffer in
       ap (λ (a : Answered). (going_on (looked_by chapter r) more (found_by chapter a r.buffer)).answer)
@@ -39,4 +39,4 @@ module _ (b : Start) (lent : List ℕ) (p : Proper b lent) (room : 1 ≤ b.room)
       ∙ ap (λ (n : ℕ). counted (plus NotRun no_counts) (eqb 0 n)) (one-id id)
 
   pub first_row : (row_of desk tree chapter id (id + 1) (draw ∷ [])).answer ≡ counted (plus NotRun no_counts) false
-  first_row = ap (λ (o : Result Unit Refusal). (row_by o desk tree chapter id (id + 1) (draw ∷ [])).answer) (checked b lent p tree size id draw low high) ∙ counted
+  first_row = ap (λ (o : Result Unit Refusal). (row_by o desk tree chapter id (id + 1) (draw ∷ [])).answer) (checked b lent p tree size id draw low high) ∙ counted-once

@@ -1,4 +1,5 @@
 -- The plain table's rows: a cell is passed exactly if a pass record of the chapter is held, and as many are counted as have passed. Assumes nothing.
+use Rattle.std.specs.Prelude as std
 use Rattle.std.specs.Prelude.{None, Some}
 use Rattle.verdicts.specs.declared.Entry.{Entry}
 use Prim.Native.Nat.{ℕ, zero, suc, ◌+◌, ◌<◌, ◌≤◌}
@@ -31,7 +32,7 @@ pass-verdict verdict.Fail h = let z : ◌≡◌ {A = ℕ} 0 1 = cc in absurd (om
 pass-verdict verdict.Skipped h = let z : ◌≡◌ {A = ℕ} 0 1 = cc in absurd (omega arith)
 pass-verdict verdict.Error h = let z : ◌≡◌ {A = ℕ} 0 1 = cc in absurd (omega arith)
 
-pass-reading : (chapter : ℕ) (rec : List ℕ) (r : Option Entry) → reading_of rec ≡ r → reading_cell chapter r ≡ Passed → PassHeld chapter (some rec)
+pass-reading : (chapter : ℕ) (rec : List ℕ) (r : std.Option Entry) → reading_of rec ≡ r → reading_cell chapter r ≡ Passed → PassHeld chapter (some rec)
 pass-reading chapter rec (Some e) k h =
     by_cases (eqb e.chapter chapter)
     (λ t.

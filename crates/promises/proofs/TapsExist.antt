@@ -37,7 +37,7 @@ use Rattle.promises.proofs.TapsWritten.{says-table}
 use Rattle.promises.proofs.FirstRequests as fresh
 use Rattle.promises.proofs.FirstRequests.{one-id, checked, first-answer}
 
-plain_done : (kind : Kind) (held : Option (List ℕ)) → finished_outcome (plain_answer kind held) ≡ Ok tt
+plain_done : (kind : Kind) (held : Option (List ℕ)) → finished_outcome (Ok (plain_answer kind held)) ≡ Ok tt
 plain_done Read none = refl
 plain_done Read (some rec) = refl
 plain_done Write held = refl

@@ -128,7 +128,7 @@ module _ (m : Means) (o : Sound m) where
   pub zeroing-out : DemandTwo m (zeroing m) → ⊥
   zeroing-out d =
       let k = (at-start (zeroing m) d).takes (start-ready m o small lent small-proper) writing (omega arith) (omega arith) (omega arith) refl in
-      let e : Ok 0 ≡ Ok 1 = sym (ap leaf_zero (first_leaf m o small lent small-proper writing writing-fits)) ∙ k in
+      let e : ◌≡◌ {A = Result ℕ Refusal} (Ok 0) (Ok 1) = sym (ap leaf_zero (first_leaf m o small lent small-proper writing writing-fits)) ∙ k in
       let z : ◌≡◌ {A = ℕ} 0 1 = cc in
       omega arith
 

@@ -97,7 +97,7 @@ all_ids (d ∷ ds) = ids_asked d ++ all_ids ds
 
 -- a run ends at its first refusal, a row's and a text's too
 abbrev pub go_on_row : Result Row Refusal → List ℕ → List ℕ
-go_on_row (Ok row) more = more
+go_on_row (Ok r) more = more
 go_on_row (Err q) more = []
 
 abbrev pub go_on_taken : Result Unit NotRead → List ℕ → List ℕ

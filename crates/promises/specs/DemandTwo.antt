@@ -102,7 +102,7 @@ pub record Kept (m : Means) (store : Store) (b : Start) (hands : List ℕ → Ty
       → (WornOut m st.desk path → ⊥) → length (new_stash m st.desk path) ≤ b.room → Accepted (finish_for store st path buffer).answer
   -- where it is accepted it answers as the plain table does, and the buffer holds what the table's would
   pub plain : (path buffer : List ℕ) → hands path → Accepted (finish_for store st path buffer).answer → (r : Request) → st.open_request ≡ some r
-      → ((finish_for store st path buffer).answer ≡ plain_answer r.kind (st.table r.id))
+      → ((finish_for store st path buffer).answer ≡ Ok (plain_answer r.kind (st.table r.id)))
       × ((finish_for store st path buffer).buffer ≡ plain_buffer r.kind (st.table r.id) buffer)
   -- and it writes the path as step 6 says, with the root digest in the desk, which is ready again
   pub writes : (path buffer : List ℕ) → hands path → Accepted (finish_for store st path buffer).answer → (k : ℕ) → k ≤ b.sizes.height

@@ -37,7 +37,7 @@ pub record AsTurns (b : Start) (ts : TreeState) (path buffer : List ℕ) (kind :
   pub shows : p ≡ ts.state.drawn id
   -- the path from the tree is never Forged; an accepted finish answers as the plain table does, and the record buffer holds what the table's would
   pub never_forged : f ≢ Err Forged
-  pub plain : Accepted f → (f ≡ plain_answer kind (ts.state.table id)) × ((request_for ts path buffer kind id leaf).buffer ≡ plain_buffer kind (ts.state.table id) buffer)
+  pub plain : Accepted f → (f ≡ Ok (plain_answer kind (ts.state.table id))) × ((request_for ts path buffer kind id leaf).buffer ≡ plain_buffer kind (ts.state.table id) buffer)
   -- the state between the two turns is reached, so that demand 2 says of it when the finish is Worn or Full
   pub middle : TreeReached (ours real) b (turn (ours real) b.sizes ts (asking (as_request kind id leaf buffer)))
   -- desk and tree are those after the two turns, so that demand 2 goes on from there

@@ -49,7 +49,7 @@ idle m =
 abbrev pub echo : Means → List ℕ → List ℕ → List ℕ → FinishResult
 echo m desk path buffer =
     record {
-      answer = answer_for (kind_asked desk) (was_marked m desk path);
+      answer = Ok (answer_for (kind_asked desk) (was_marked m desk path));
       desk = closed desk;
       path = path;
       buffer = buffer;
