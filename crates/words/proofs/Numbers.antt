@@ -1,12 +1,15 @@
 -- The laws of numbers in bytes. Assumes nothing.
-use mathlib.Core.Path.{◌≡◌, refl, sym, ap, subst, ◌∙◌}
-use mathlib.Core.List.{List, [], ◌∷◌, ◌++◌, append_assoc}
+use mathlib.Core.Path.{◌≡◌, refl, sym, ap, ◌∙◌}
+use mathlib.Core.List.{List, [], ◌∷◌, ◌++◌}
 use Prim.Native.Nat.{ℕ, zero, suc, ◌+◌, ◌-◌, ◌*◌, ◌/◌, ◌%◌, ◌^◌, ◌≤◌, ◌<◌}
-use native.Mathlib.Nat.{zero-add, add-zero, suc-add, zero-mul, mul_comm, mul_assoc, pow-suc}
+use native.Mathlib.Nat.{zero-add, add-zero, suc-add, mul_comm, mul_assoc, pow-suc, div-div-eq-div-mul}
 use native.Mathlib.Numerals.{add-one}
 use native.Mathlib.Omega.{arith}
-use lib.ListN.{length, get_or, take, drop, set, length-append, take-append-drop}
-use lib.Seq.{get_or-drop, drop-drop, drop-cons, drop-set-add, take-take, take-set-le}
+use lib.ListN.{length, get_or, drop, length-append}
+use lib.Seq.{get_or-drop, drop-drop}
+use Rattle.std.specs.Prelude.{reverse}
+use Rattle.std.proofs.lemmas.List.{reverse-append}
+use Rattle.std.specs.Int.{byte_at, byte_worth, bytes_low_first, bytes_high_first, sum_through}
 use Rattle.words.specs.Bytes.{part, splice}
 use Rattle.words.specs.Numbers.{number, bytes_of, big_number, big_bytes_of}
 use Rattle.words.proofs.Splice.{get_d_part, get_d-splice-before, get_d-splice-after, get_d-splice-in}
@@ -133,12 +136,6 @@ big_bytes_of-wrap (suc n) x q =
     let m : (x + q * 256 ^ suc n) % 256 ≡ x % 256 = omega arith in
     rw (d, m, big_bytes_of-wrap n (x / 256) q)
 
--- four bytes, written out
-pub big-four : (xs : List ℕ) (i : ℕ) {x y z w : ℕ} → x ≡ get_or xs i 0 → y ≡ get_or xs (i + 1) 0 → z ≡ get_or xs (i + 2) 0 → w ≡ get_or xs (i + 3) 0
-    → ((x * 256 + y) * 256 + z) * 256 + w ≡ big_number 4 xs i
-unfolding big_number
-big-four xs i p q r s = simp (p, q, r, s, zero-mul, zero-add, add-zero)
-
 -- in a part
 pub big_number-part : (n : ℕ) (xs : List ℕ) (a m b : ℕ) → b + n ≤ m → big_number n (part xs a m) b ≡ big_number n xs (a + b)
 unfolding big_number
@@ -149,33 +146,58 @@ big_number-part (suc n) xs a m b h =
     let g : get_or (part xs a m) (b + n) 0 ≡ get_or xs (a + b + n) 0 = get_d_part xs a m (b + n) (omega arith) ∙ ap (λ (j : ℕ). get_or xs j 0) f in
     cc
 
--- the loop that writes them, from the last byte down: what is still to come stands before what is there
-drop-store : (d : List ℕ) (i x : ℕ) → i < length d → drop i (set d i x) ≡ x ∷ drop (suc i) d
-drop-store d i x h =
-    let e : drop i (set d (i + 0) x) ≡ set (drop i d) 0 x = drop-set-add i d 0 x in
-    (rw add-zero at e) ∙ rw (drop-cons d i 0 h)
+-- the same bytes, turned round
+pub reverse-bytes_of : (n x : ℕ) → reverse (bytes_of n x) ≡ big_bytes_of n x
+unfolding bytes_of big_bytes_of
+reverse-bytes_of zero x = refl
+reverse-bytes_of (suc n) x =
+    reverse-append (x % 256 ∷ []) (bytes_of n (x / 256)) ∙ ap (λ (l : List ℕ). l ++ (x % 256 ∷ [])) (reverse-bytes_of n (x / 256))
 
-big-one : (d e : List ℕ) (at j y : ℕ) → at + j < length d → big_bytes_of (suc j) y ++ drop (suc (at + j)) d ≡ e
-    → big_bytes_of j (y / 256) ++ drop (at + j) (set d (at + j) (y % 256)) ≡ e
+-- ---- the library's conversions
+
+byte_at-is : (i x : ℕ) → byte_at i x ≡ x / 256 ^ i % 256
+byte_at-is zero x = omega arith
+byte_at-is (suc i) x = refl
+
+low_first-from : (i n x : ℕ) → bytes_low_first i n x ≡ bytes_of n (x / 256 ^ i)
+unfolding bytes_of
+low_first-from i zero x = refl
+low_first-from i (suc n) x =
+    let d : x / 256 ^ suc i ≡ x / 256 ^ i / 256 = rw pow-suc (sym (div-div-eq-div-mul x (256 ^ i) 256)) in
+    rw (byte_at-is i x, low_first-from (suc i) n x, d)
+
+pub low_first-is : (n x : ℕ) → bytes_low_first 0 n x ≡ bytes_of n x
+low_first-is n x = let e : x / 256 ^ 0 ≡ x = omega arith in low_first-from 0 n x ∙ ap (bytes_of n) e
+
+big-first : (n x : ℕ) → big_bytes_of (suc n) x ≡ x / 256 ^ n % 256 ∷ big_bytes_of n x
 unfolding big_bytes_of
-big-one d e at j y l p = rw (drop-store d (at + j) (y % 256) l) (rw append_assoc at p)
+big-first zero x = let e : x / 256 ^ 0 ≡ x = omega arith in rw e
+big-first (suc n) x =
+    let d : x / 256 ^ suc n ≡ x / 256 / 256 ^ n = rw (pow-suc, mul_comm (256 ^ n) 256) (sym (div-div-eq-div-mul x 256 (256 ^ n))) in
+    rw (big-first n (x / 256), d)
 
-pub big-turn : (d e : List ℕ) (at i y : ℕ) → 0 < i → at + i ≤ length d → big_bytes_of i y ++ drop (at + i) d ≡ e
-    → big_bytes_of (i - 1) (y / 256) ++ drop (at + (i - 1)) (set d (at + (i - 1)) (y % 256)) ≡ e
-big-turn d e at i y h l p =
-    let q : i ≡ suc (i - 1) = omega arith in
-    let r : at + i ≡ suc (at + (i - 1)) = omega arith in
-    big-one d e at (i - 1) y (omega arith) (subst (λ (k : ℕ). big_bytes_of k y ++ drop (suc (at + (i - 1))) d ≡ e) q (rw r at p))
+pub high_first-is : (n x : ℕ) → bytes_high_first n x ≡ big_bytes_of n x
+unfolding big_bytes_of
+high_first-is zero x = refl
+high_first-is (suc n) x =
+    ap (λ (y : ℕ). y ∷ bytes_high_first n x) (byte_at-is n x) ∙ ap (λ (l : List ℕ). x / 256 ^ n % 256 ∷ l) (high_first-is n x) ∙ sym (big-first n x)
 
-pub below-turn : (d e : List ℕ) (at i x : ℕ) → take (at + i) d ≡ take (at + i) e → take (at + (i - 1)) (set d (at + (i - 1)) x) ≡ take (at + (i - 1)) e
-below-turn d e at i x p =
-    take-set-le (at + (i - 1)) d (at + (i - 1)) x (omega arith) ∙ sym (take-take (at + (i - 1)) (at + i) d (omega arith)) ∙ ap (take (at + (i - 1))) p
-    ∙ take-take (at + (i - 1)) (at + i) e (omega arith)
+number-one : (xs : List ℕ) (at : ℕ) → number 1 xs at ≡ get_or xs at 0
+unfolding number
+number-one xs at = omega arith
 
-pub big-end : (d e : List ℕ) (at n x i y : ℕ) → i ≡ 0 → take (at + i) d ≡ take (at + i) e → big_bytes_of i y ++ drop (at + i) d ≡ big_bytes_of n x ++ drop (at + n) e
-    → d ≡ splice e at (big_bytes_of n x)
-unfolding splice big_bytes_of
-big-end d e at n x i y z p q =
-    let t : take at d ≡ take at e = rw (z, add-zero) at p in
-    let r : drop at d ≡ big_bytes_of n x ++ drop (at + n) e = rw (z, add-zero) at q in
-    sym (take-append-drop at d) ∙ rw (t, r, length-big_bytes_of n x)
+low-number : (n : ℕ) (xs : List ℕ) → sum_through (λ i. byte_worth i (get_or xs i 0)) n ≡ number (suc n) xs 0
+low-number zero xs = sym (number-one xs 0)
+low-number (suc n) xs =
+    let e : suc (suc n) ≡ suc n + 1 = omega arith in
+    rw (e, number-add (suc n) 1 xs 0, low-number n xs, zero-add, number-one, mul_comm (256 ^ suc n))
+
+-- of the bytes taken at a place
+pub low-number-at : (n : ℕ) (xs : List ℕ) (at : ℕ) {bs : List ℕ} → bs ≡ part xs at (suc n) → sum_through (λ i. byte_worth i (get_or bs i 0)) n ≡ number (suc n) xs at
+low-number-at n xs at {bs} e = low-number n bs ∙ rw (e, number-part (suc n) xs at (suc n) 0 (omega arith), add-zero)
+
+pub high-number-at : (xs : List ℕ) (at : ℕ) {bs : List ℕ} → bs ≡ part xs at 4 → sum_through (λ i. byte_worth (3 - i) (get_or bs i 0)) 3 ≡ big_number 4 xs at
+unfolding big_number
+high-number-at xs at {bs} e =
+    let h : (i : ℕ) → i < 4 → get_or bs i 0 ≡ get_or xs (at + i) 0 = λ i l. ap (λ (b : List ℕ). get_or b i 0) e ∙ get_d_part xs at 4 i l in
+    omega (arith, h 0 (omega arith), h 1 (omega arith), h 2 (omega arith), h 3 (omega arith))

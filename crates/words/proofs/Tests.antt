@@ -7,10 +7,13 @@ use native.Mathlib.Nat.{le_antisymm, eq-or-lt_of_le, le_of_suc-le-suc}
 use native.Mathlib.Numerals.{add-one}
 use native.Mathlib.Omega.{arith}
 use mathlib.Core.List.{List, [], ◌∷◌}
-use lib.ListN.{length, drop, get_or, length-replicate, get_or-replicate}
-use lib.Seq.{drop-cons}
+use lib.ListN.{length, take, drop, get_or, length-replicate, get_or-replicate}
+use lib.Seq.{take-suc, take_all, drop-cons}
 use lib.Dec.{eqb, ltb}
 use borrow.Author.Tests.{eq-eqb, ne_eqb, eqb-true, ltb-true, ltb-false}
+use Rattle.std.specs.Cmp.Lexicographic.{pointwise}
+use Rattle.std.specs.List.{fold}
+use Rattle.std.proofs.lemmas.Grind.{fold-append}
 use Rattle.words.specs.Bytes.{zeros, same}
 use Rattle.words.specs.Tests.{all, all_zero, every, every_after, Each}
 
@@ -111,6 +114,17 @@ every_of bs e = every-after true bs refl e
 pub zeros-zero : (n : ℕ) → all_zero (zeros n) ≡ true
 zeros-zero n = all_true _ _ (λ i h. eq-eqb _ _ (get_or-replicate n i 0 0 (omega (arith, length-replicate {A = ℕ} n 0))))
 
+-- the test as a fold over the bytes
+all_zero-take : (xs : List ℕ) (i : ℕ) → i ≤ length xs → fold (λ (good : Bool) (x : ℕ). good && eqb x 0) true (take i xs) ≡ all i (λ k. eqb (get_or xs k 0) 0)
+unfolding all
+all_zero-take xs zero h = refl
+all_zero-take xs (suc i) h =
+    let l : i < length xs = omega arith in
+    rw (take-suc xs i 0, fold-append, all_zero-take xs i (omega arith))
+
+pub all_zero-fold : (xs : List ℕ) → fold (λ (good : Bool) (x : ℕ). good && eqb x 0) true xs ≡ all_zero xs
+all_zero-fold xs = rw (take_all (length xs) xs (omega arith)) at (all_zero-take xs (length xs) (omega arith))
+
 -- ---- same: lists that are the same are equal, and a list is the same as itself
 
 pub same-eq : (xs ys : List ℕ) → same xs ys ≡ true → xs ≡ ys
@@ -135,7 +149,15 @@ same-lengths [] (y ∷ ys) h = refl
 same-lengths (x ∷ xs) [] h = refl
 same-lengths (x ∷ xs) (y ∷ ys) h = rw (same-lengths xs ys (λ e. h (ap suc e)), and-false)
 
--- the loop's turn: byte i is the same, or differs
+-- as the library compares slices
+pub same-pointwise : (xs ys : List ℕ) → pointwise eqb xs ys ≡ same xs ys
+unfolding same
+same-pointwise [] [] = refl
+same-pointwise [] (y ∷ ys) = refl
+same-pointwise (x ∷ xs) [] = refl
+same-pointwise (x ∷ xs) (y ∷ ys) = rw (same-pointwise xs ys)
+
+-- a loop's turn: byte i is the same, or differs
 module _ (xs ys : List ℕ) (i : ℕ) (hx : i < length xs) (hy : i < length ys) where
   pub same_step : get_or xs i 0 ≡ get_or ys i 0 → same (drop i xs) (drop i ys) ≡ same (drop (i + 1) xs) (drop (i + 1) ys)
   unfolding same

@@ -3,7 +3,7 @@
 #![tactic(auto)]
 
 ghost use Rattle.std.specs.Prelude.{◌≡◌, ◌+◌, ◌≤◌, ◌<◌, length};
-ghost use Rattle.words.specs.Bytes.{splice, zeros};
+ghost use Rattle.words.specs.Bytes.{part, splice, zeros};
 ghost use Rattle.words.specs.Bytes as spec;
 ghost use Rattle.words.specs.Numbers.{number, bytes_of, big_number, big_bytes_of};
 ghost use Rattle.words.specs.Tests.{all_zero};
@@ -12,7 +12,17 @@ ghost use Rattle.words.specs.Tests.{all_zero};
 pub fn wide(x: u8) -> usize
     ensures { (result ≡ x) × (result < 256) }
 {
-    x as usize
+    usize::from(x)
+}
+
+// The `N` bytes of `s` from `at` on, as an array: what the library's conversions take.
+fn array_at<const N: usize>(s: &[u8], at: usize) -> [u8; N]
+    requires { at + N ≤ length s.now }
+    ensures { result ≡ part s.now at N }
+{
+    let mut bytes = [0; N];
+    bytes.copy_from_slice(&s[at..at + N]);
+    bytes
 }
 
 // The number in the two bytes of `s` from `at` on.
@@ -20,7 +30,7 @@ pub fn get16(s: &[u8], at: usize) -> u16
     requires { at + 2 ≤ length s.now }
     ensures { result ≡ number 2 s.now at }
 {
-    (wide(s[at]) + wide(s[at + 1]) * 256) as u16
+    u16::from_le_bytes(array_at(s, at))
 }
 
 // The number in four bytes.
@@ -28,7 +38,7 @@ pub fn get32(s: &[u8], at: usize) -> u32
     requires { at + 4 ≤ length s.now }
     ensures { result ≡ number 4 s.now at }
 {
-    (get16(s, at) as u32) + (get16(s, at + 2) as u32) * 65536
+    u32::from_le_bytes(array_at(s, at))
 }
 
 // The number in eight bytes.
@@ -36,7 +46,7 @@ pub fn get64(s: &[u8], at: usize) -> u64
     requires { at + 8 ≤ length s.now }
     ensures { result ≡ number 8 s.now at }
 {
-    (get32(s, at) as u64) + (get32(s, at + 4) as u64) * 4294967296
+    u64::from_le_bytes(array_at(s, at))
 }
 
 // `x` in `n` bytes, the lowest first, from `at` on.
@@ -44,12 +54,10 @@ pub fn put_number(s: &mut [u8], at: usize, n: usize, x: u64)
     requires { at + n ≤ length s.old }
     ensures { s.new ≡ splice s.old at (bytes_of n x) }
 {
-    let mut i = 0;
-    let mut y = x;
-    while i < n {
-        s[at + i] = (y % 256) as u8;
-        y = y / 256;
-        i += 1;
+    let mut left = x;
+    for byte in &mut s[at..at + n] {
+        *byte = (left % 256) as u8;
+        left /= 256;
     }
 }
 
@@ -57,21 +65,21 @@ pub fn put16(s: &mut [u8], at: usize, x: u16)
     requires { at + 2 ≤ length s.old }
     ensures { s.new ≡ splice s.old at (bytes_of 2 x) }
 {
-    put_number(s, at, 2, x as u64);
+    copy(s, at, &x.to_le_bytes());
 }
 
 pub fn put32(s: &mut [u8], at: usize, x: u32)
     requires { at + 4 ≤ length s.old }
     ensures { s.new ≡ splice s.old at (bytes_of 4 x) }
 {
-    put_number(s, at, 4, x as u64);
+    copy(s, at, &x.to_le_bytes());
 }
 
 pub fn put64(s: &mut [u8], at: usize, x: u64)
     requires { at + 8 ≤ length s.old }
     ensures { s.new ≡ splice s.old at (bytes_of 8 x) }
 {
-    put_number(s, at, 8, x);
+    copy(s, at, &x.to_le_bytes());
 }
 
 // The number in four bytes, the highest first: a word of the digest.
@@ -79,7 +87,7 @@ pub fn get_big32(s: &[u8], at: usize) -> u32
     requires { at + 4 ≤ length s.now }
     ensures { result ≡ big_number 4 s.now at }
 {
-    (((wide(s[at]) * 256 + wide(s[at + 1])) * 256 + wide(s[at + 2])) * 256 + wide(s[at + 3])) as u32
+    u32::from_be_bytes(array_at(s, at))
 }
 
 // `x` in `n` bytes, the highest first, from `at` on.
@@ -87,13 +95,8 @@ pub fn put_big(s: &mut [u8], at: usize, n: usize, x: u64)
     requires { at + n ≤ length s.old }
     ensures { s.new ≡ splice s.old at (big_bytes_of n x) }
 {
-    let mut y = x;
-    let mut i = n;
-    while 0 < i {
-        i -= 1;
-        s[at + i] = (y % 256) as u8;
-        y = y / 256;
-    }
+    put_number(s, at, n, x);
+    s[at..at + n].reverse();
 }
 
 // All of `src` into `dst` from `at` on.
@@ -101,11 +104,7 @@ pub fn copy(dst: &mut [u8], at: usize, src: &[u8])
     requires { at + length src.now ≤ length dst.old }
     ensures { dst.new ≡ splice dst.old at src.now }
 {
-    let mut i = 0;
-    while i < src.len() {
-        dst[at + i] = src[i];
-        i += 1;
-    }
+    dst[at..at + src.len()].copy_from_slice(src);
 }
 
 // `n` zeros into `dst` from `at` on.
@@ -113,39 +112,19 @@ pub fn clear(dst: &mut [u8], at: usize, n: usize)
     requires { at + n ≤ length dst.old }
     ensures { dst.new ≡ splice dst.old at (zeros n) }
 {
-    let mut i = 0;
-    while i < n {
-        dst[at + i] = 0;
-        i += 1;
-    }
+    dst[at..at + n].fill(0);
 }
 
-// Whether every byte is zero. No byte ends the loop early, so that the compiler looks at sixteen together: nearly every slice asked about is zero.
+// Whether every byte is zero. No byte ends the fold early, so that the compiler looks at sixteen together: nearly every slice asked about is zero.
 pub fn is_zero(s: &[u8]) -> bool
     ensures { result ≡ all_zero s.now }
 {
-    let mut good = true;
-    let mut i = 0;
-    while i < s.len() {
-        good = good & (s[i] == 0);
-        i += 1;
-    }
-    good
+    s.iter().fold(true, |good, byte| good & (*byte == 0))
 }
 
 // Whether `a` and `b` hold the same bytes.
 pub fn same(a: &[u8], b: &[u8]) -> bool
     ensures { result ≡ spec.same a.now b.now }
 {
-    if a.len() != b.len() {
-        return false;
-    }
-    let mut i = 0;
-    while i < a.len() {
-        if a[i] != b[i] {
-            return false;
-        }
-        i += 1;
-    }
-    true
+    a == b
 }

@@ -1,28 +1,17 @@
--- `words::clear` meets its contract: after i turns the first i of the n zeros are laid in. Assumes nothing.
-use Prim.Native.Nat.{ℕ}
-use mathlib.Core.Path.{refl, sym, ap, ◌∙◌}
-use mathlib.Core.List.{List}
+-- `words::clear` meets its contract: the zeros given back in the place of a part are a splice. Assumes nothing.
+use Prim.Native.Nat.{◌+◌, ◌-◌}
+use mathlib.Core.Path.{◌≡◌, ◌∙◌}
 use native.Mathlib.Omega.{arith}
-use lib.ListN.{length-set, get_or-replicate}
-use lib.Seq.{take_all}
-use Rattle.words.specs.Bytes.{splice, zeros}
-use Rattle.words.proofs.Splice.{splice-turn, splice-nil, length-zeros}
+use lib.ListN.{length}
+use Rattle.words.specs.Bytes.{part, zeros}
+use Rattle.words.proofs.Splice.{spliced, length-zeros, length_part}
 use Rattle.words.proofs.clear.Goals as goal
-
-pub loop-i-init : goal.loop-i-init
-loop-i-init c = ((omega arith, refl), sym (splice-nil c.args.dst.now c.args.at))
-
-pub loop-i-preserved : goal.loop-i-preserved
-loop-i-preserved c =
-    let l = c.loop-i in
-    let a = c.args in
-    let z = length-zeros a.n in (
-      (omega arith, simp length-set (omega arith)),
-      splice-turn a.dst.now a.at l.i 0 (zeros a.n) l.dst (omega arith) (omega arith) (sym (get_or-replicate a.n l.i 0 0 (omega arith))) l.invariant.1,
-    )
 
 pub returns : goal.returns
 returns c =
-    let l = c.loop-i in
     let a = c.args in
-    l.invariant.1 ∙ ap (λ (x : List ℕ). splice a.dst.now a.at x) (take_all l.i (zeros a.n) (omega (arith, length-zeros a.n)))
+    let k = a.at + a.n - a.at in
+    let e : k ≡ a.n = omega arith in
+    let l : length (part a.dst.now a.at k) ≡ a.n = length_part a.dst.now a.at k (omega arith) ∙ e in
+    let z : c.fill.new.self ≡ zeros a.n = rw l at (c.fill.ensures.after (λ y e. e)) in
+    rw z (spliced _ _ _ _ (omega (arith, length-zeros a.n)))

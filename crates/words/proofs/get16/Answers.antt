@@ -1,8 +1,7 @@
--- `words::get16` meets its contract: the sum is the definition, written out. Assumes nothing.
-use native.Mathlib.Omega.{arith}
-use Rattle.words.specs.Numbers.{number}
+-- `words::get16` meets its contract: the library's number is the definition's. Assumes nothing.
+use mathlib.Core.Path.{◌∙◌}
+use Rattle.words.proofs.Numbers.{low-number-at}
 use Rattle.words.proofs.get16.Goals as goal
 
 pub returns : goal.returns
-unfolding number
-returns c = omega arith
+returns c = c.from_le_bytes.ensures ∙ low-number-at 1 c.args.s.now c.args.at c.array_at.ensures

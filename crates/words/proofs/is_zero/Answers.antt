@@ -1,14 +1,15 @@
--- `words::is_zero` meets its contract: what was found of the first i bytes is their test. Assumes nothing.
-use mathlib.Core.Path.{refl, sym}
-use borrow.Author.Rules.{rules}
-use Rattle.words.proofs.Tests.{all_none, all-step, all_done}
+-- `words::is_zero` meets its contract: the fold over the bytes is their test. Assumes nothing.
+use mathlib.Core.Path.{◌≡◌, ◌∙◌}
+use mathlib.Core.Bool.{Bool, true, ◌&&◌}
+use Prim.Native.Nat.{ℕ}
+use native.Mathlib.Omega.{arith}
+use lib.Dec.{eqb}
+use Rattle.std.specs.List.{fold}
+use Rattle.std.proofs.lemmas.Grind.{common_steps}
+use Rattle.words.proofs.Tests.{all_zero-fold}
 use Rattle.words.proofs.is_zero.Goals as goal
 
-pub loop-i-init : goal.loop-i-init
-loop-i-init c = (search rules, sym (all_none _))
-
-pub loop-i-preserved : goal.loop-i-preserved
-loop-i-preserved c = (search rules, all-step _ _ _ _ c.loop-i.invariant.1 refl)
-
 pub returns : goal.returns
-returns c = all_done _ _ _ _ c.loop-i.invariant.0 c.loop-i-test.false c.loop-i.invariant.1
+returns c =
+    let e : c.fold.result ≡ fold (λ (good : Bool) (x : ℕ). good && eqb x 0) true c.args.s.now = grind (arith, common_steps) in
+    e ∙ all_zero-fold c.args.s.now

@@ -1,46 +1,23 @@
--- `words::put_big` meets its contract: the bytes still to come, of what is left of x, stand before those that are there. Assumes nothing.
-use Prim.Native.Nat.{◌+◌, ◌%◌}
-use mathlib.Core.Path.{refl}
-use mathlib.Core.List.{◌++◌}
+-- `words::put_big` meets its contract: the bytes with the lowest first, turned round, are those with the highest first. Assumes nothing.
+use Prim.Native.Nat.{◌+◌, ◌-◌}
+use mathlib.Core.Path.{◌≡◌, ◌∙◌}
 use native.Mathlib.Omega.{arith}
-use lib.ListN.{drop, length-set}
-use Rattle.words.specs.Numbers.{big_bytes_of}
-use Rattle.words.proofs.Numbers.{big-turn, big-end, below-turn}
+use Rattle.words.specs.Bytes.{part, splice}
+use Rattle.words.specs.Numbers.{bytes_of, big_bytes_of}
+use Rattle.words.proofs.Splice.{spliced, splice-splice, part-splice}
+use Rattle.words.proofs.Numbers.{length-bytes_of, length-big_bytes_of, reverse-bytes_of}
 use Rattle.words.proofs.put_big.Goals as goal
-
-pub loop-i-init : goal.loop-i-init
-loop-i-init c = (omega arith, refl, refl, refl)
-
-pub overflow_sub-i : goal.overflow_sub-i
-overflow_sub-i c = omega arith
-
-pub overflow_cast-s : goal.overflow_cast-s
-overflow_cast-s c = omega arith
-
-pub overflow_add-s : goal.overflow_add-s
-overflow_add-s c = omega arith
-
-pub bounds-s-at : goal.bounds-s-at
-bounds-s-at c = omega arith
-
-pub loop-i-smaller : goal.loop-i-smaller
-loop-i-smaller c = omega arith
-
-pub loop-i-preserved : goal.loop-i-preserved
-loop-i-preserved c =
-    let a = c.args in
-    let l = c.loop-i in (
-      omega arith,
-      simp length-set l.invariant.1,
-      below-turn l.s a.s.now a.at l.i (l.y % 256) l.invariant.2,
-      big-turn l.s (big_bytes_of a.n a.x ++ drop (a.at + a.n) a.s.now) a.at l.i l.y c.loop-i-test.true (omega arith) l.invariant.3,
-    )
-
-pub shape_of-s : goal.shape_of-s
-shape_of-s c = c.loop-i.invariant.1
 
 pub returns : goal.returns
 returns c =
     let a = c.args in
-    let l = c.loop-i in
-    big-end l.s a.s.now a.at a.n a.x l.i l.y (omega arith) l.invariant.2 l.invariant.3
+    let ys = bytes_of a.n a.x in
+    let y = length-bytes_of a.n a.x in
+    let z = length-big_bytes_of a.n a.x in
+    let k : a.at + a.n - a.at ≡ a.n = omega arith in
+    let p : part (splice a.s.now a.at ys) a.at a.n ≡ ys = rw y at (part-splice a.s.now a.at ys (omega arith)) in
+    let e : c.reverse.new.self ≡ big_bytes_of a.n a.x =
+    (rw (c.put_number.ensures, k, p) at c.reverse.ensures.after) ∙ reverse-bytes_of a.n a.x in
+    let w = splice a.s.now a.at ys in
+    let f = spliced w a.at (a.at + a.n - a.at) (big_bytes_of a.n a.x) (omega (arith, z)) in
+    rw (e, c.put_number.ensures) (f ∙ splice-splice a.s.now a.at ys (big_bytes_of a.n a.x) (omega (arith, y, z)) (omega arith))

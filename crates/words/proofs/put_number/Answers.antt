@@ -1,38 +1,31 @@
--- `words::put_number` meets its contract: after i turns the first i bytes of x are laid in, and y holds what is left of x. Assumes nothing.
-use Prim.Native.Nat.{ℕ, ◌-◌, ◌%◌}
-use mathlib.Core.Path.{◌≡◌, refl, sym, ap, ◌∙◌}
-use mathlib.Core.List.{List}
+-- `words::put_number` meets its contract: after i turns the first i bytes of x are there, and what is left of x makes the others. Assumes nothing.
+use Prim.Native.Nat.{◌%◌}
+use mathlib.Core.Path.{◌≡◌, sym, ◌∙◌}
 use native.Mathlib.Omega.{arith}
 use lib.ListN.{length-set}
 use lib.Seq.{take_all}
-use Rattle.words.specs.Bytes.{splice}
+use Rattle.std.proofs.lemmas.List.{take_more, take_more_set}
 use Rattle.words.specs.Numbers.{bytes_of}
-use Rattle.words.proofs.Splice.{splice-turn, splice-nil}
+use Rattle.words.proofs.Splice.{spliced}
 use Rattle.words.proofs.Numbers.{length-bytes_of, bytes_of-at, bytes_of-left}
 use Rattle.words.proofs.put_number.Goals as goal
 
-pub loop-i-init : goal.loop-i-init
-loop-i-init c =
+pub loop-byte-preserved : goal.loop-byte-preserved
+loop-byte-preserved c =
     let a = c.args in
-    let e : a.n ≡ a.n - 0 = omega arith in
-    ((omega arith, refl), (ap (λ (m : ℕ). bytes_of m a.x) e, sym (splice-nil a.s.now a.at)))
-
-pub loop-i-preserved : goal.loop-i-preserved
-loop-i-preserved c =
-    let l = c.loop-i in
-    let a = c.args in
+    let l = c.loop-byte in
     let z = length-bytes_of a.n a.x in (
-      (omega arith, simp length-set (omega arith)),
-      (
-        bytes_of-left a.n a.x l.i l.y (omega arith) l.invariant.1.0,
-        splice-turn a.s.now a.at l.i (l.y % 256) (bytes_of a.n a.x) l.s (omega (arith, z)) (omega (arith, z))
-            (bytes_of-at a.n a.x l.i l.y (omega arith) l.invariant.1.0) l.invariant.1.1,
-      ),
+      simp length-set l.invariant.0,
+      bytes_of-left a.n a.x l.byte-index l.left (omega arith) l.invariant.1,
+      take_more_set l.byte-items l.byte-index (l.left % 256) (omega arith)
+          ∙ rw (l.invariant.2, bytes_of-at a.n a.x l.byte-index l.left (omega arith) l.invariant.1) (sym (take_more (bytes_of a.n a.x) l.byte-index 0 (omega (arith, z)))),
     )
 
 pub returns : goal.returns
 returns c =
-    let l = c.loop-i in
     let a = c.args in
+    let l = c.loop-byte in
     let z = length-bytes_of a.n a.x in
-    l.invariant.1.1 ∙ ap (λ (x : List ℕ). splice a.s.now a.at x) (take_all l.i (bytes_of a.n a.x) (omega (arith, z)))
+    let e : l.byte-items ≡ bytes_of a.n a.x =
+    sym (take_all l.byte-index l.byte-items (omega arith)) ∙ l.invariant.2 ∙ take_all l.byte-index (bytes_of a.n a.x) (omega (arith, z)) in
+    rw e (spliced _ _ _ _ (omega (arith, z)))
