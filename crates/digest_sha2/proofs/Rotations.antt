@@ -4,6 +4,7 @@ use Rattle.std.proofs.Common.{◌≡◌, ℕ, ◌+◌, ◌-◌, ◌*◌, ◌/◌
 use lib.Bits.{bit_xor, or_shifted_r, xor_block, xor_lt, xor_mod, xor_shr}
 use lib.Arith.{digits_lt}
 use lib.Pow.{split, high, low}
+use Rattle.std.specs.Int.{w32, rotate_right}
 use Rattle.digest_sha2.specs.Sha2.{shr, rotr, rotr³, rotr²shr}
 use Rattle.digest_sha2.proofs.Bitwise.{xor_assoc}
 
@@ -115,3 +116,12 @@ rotr³-is w x h a b c p q r =
 pub rotr²shr-is : (w x : ℕ) → x < 2 ^ w → (a b c : ℕ) → a < b → b < w → bit_xor (rotr w a (bit_xor x (rotr w (b - a) x))) (shr c x) ≡ rotr²shr w a b c x
 unfolding rotr²shr
 rotr²shr-is w x h a b c p q = ap (λ (z : ℕ). bit_xor z (shr c x)) (rotr²-is w x h a b p q)
+
+-- ---- the library's rotation is the standard's
+
+pub rotated-right : (x n r : ℕ) → 0 < n → n < 32 → r ≡ rotate_right w32 x n → r ≡ rotr 32 n x
+unfolding rotr
+rotated-right x n r p q h =
+    let e : n % 32 ≡ n = omega arith in
+    let f : (32 - n) % 32 ≡ 32 - n = omega arith in
+    h ∙ rw (e, f)

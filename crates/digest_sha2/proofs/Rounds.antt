@@ -1,6 +1,7 @@
 -- The laws of the rounds (6.2.2 steps 2 to 4). Each says of plain variables what a function's calls say of their results.
 -- Assumes nothing.
-use Rattle.std.proofs.Common.{◌≡◌, ℕ, suc, ◌+◌, ◌-◌, ◌<◌, List, [], ◌∷◌, length, get_or, refl, ap, ◌∙◌, arith}
+use Rattle.std.proofs.Common.{◌≡◌, ℕ, zero, suc, ◌+◌, ◌-◌, ◌<◌, List, [], ◌∷◌, length, get_or, refl, ap, ◌∙◌, arith}
+use Rattle.std.proofs.lemmas.List.{ext_get_or}
 use Rattle.words.specs.Bytes.{part}
 use Rattle.words.proofs.Splice.{get_d_part}
 use Rattle.digest_sha2.specs.Sha2.{Sha2, plus, ch, maj, round, run, add_all, words_of, extend, schedule, compress}
@@ -37,13 +38,20 @@ reached-turn v ws s₀ s w t p =
     record { state = rw e p.state; words = window-turn ws w t p.words }
 
 -- the sums at the end
-module _ (w : ℕ) (s t : List ℕ) where
-  pub add-all-is : {a b c d e f g h : ℕ} → a ≡ plus w (get_or s 0 0) (get_or t 0 0) → b ≡ plus w (get_or s 1 0) (get_or t 1 0)
-      → c ≡ plus w (get_or s 2 0) (get_or t 2 0) → d ≡ plus w (get_or s 3 0) (get_or t 3 0) → e ≡ plus w (get_or s 4 0) (get_or t 4 0)
-      → f ≡ plus w (get_or s 5 0) (get_or t 5 0) → g ≡ plus w (get_or s 6 0) (get_or t 6 0) → h ≡ plus w (get_or s 7 0) (get_or t 7 0)
-      → a ∷ b ∷ c ∷ d ∷ e ∷ f ∷ g ∷ h ∷ [] ≡ add_all w s t
-  unfolding add_all
-  add-all-is p₁ p₂ p₃ p₄ p₅ p₆ p₇ p₈ = cc
+pub add-all-is : (w : ℕ) (s t r : List ℕ) → length r ≡ 8 → ((i : ℕ) → i < 8 → get_or r i 0 ≡ plus w (get_or s i 0) (get_or t i 0)) → r ≡ add_all w s t
+unfolding add_all
+add-all-is w s t r l each = ext_get_or 0 r (add_all w s t) l (λ i h. at i (omega arith))
+  where
+    at : (i : ℕ) → i < 8 → get_or r i 0 ≡ get_or (add_all w s t) i 0
+    at zero h = each 0 h
+    at (suc zero) h = each 1 h
+    at (suc (suc zero)) h = each 2 h
+    at (suc (suc (suc zero))) h = each 3 h
+    at (suc (suc (suc (suc zero)))) h = each 4 h
+    at (suc (suc (suc (suc (suc zero))))) h = each 5 h
+    at (suc (suc (suc (suc (suc (suc zero)))))) h = each 6 h
+    at (suc (suc (suc (suc (suc (suc (suc zero))))))) h = each 7 h
+    at (suc (suc (suc (suc (suc (suc (suc (suc i)))))))) h = absurd (omega arith)
 
 pub compress-is : (v : Sha2) (s b w r t : List ℕ) → w ≡ words_of v.bytes 16 b → r ≡ run v (extend v (v.rounds - 16) w) v.rounds s
     → t ≡ add_all v.bits s r → t ≡ compress v s b

@@ -3,7 +3,8 @@ ghost use Rattle.std.specs.Prelude.{◌≡◌, ◌*◌, ◌<◌};
 ghost use Rattle.words.specs.Bytes.{part};
 ghost use Rattle.digest_sha2.specs.Sha256.{K256, H256};
 
-const K: [[u32; 16]; 4] = [
+// A static and not a constant, which would be laid on the stack, all of it, wherever a row is read by its number.
+static K: [[u32; 16]; 4] = [
     [
         0x428a2f98, 0x71374491, 0xb5c0fbcf, 0xe9b5dba5, 0x3956c25b, 0x59f111f1, 0x923f82a4,
         0xab1c5ed5, 0xd807aa98, 0x12835b01, 0x243185be, 0x550c7dc3, 0x72be5d74, 0x80deb1fe,
@@ -30,22 +31,12 @@ const H: [u32; 8] = [
     0x6a09e667, 0xbb67ae85, 0x3c6ef372, 0xa54ff53a, 0x510e527f, 0x9b05688c, 0x1f83d9ab, 0x5be0cd19,
 ];
 
-// Sixteen round constants, a row of the table, for the rounds of one turn. Each row's number is written out: read by a number that the
-// compiler does not know, the whole table would be laid on the stack.
+// Sixteen round constants, a row of the table, for the rounds of one turn.
 pub fn constants(row: usize) -> [u32; 16]
     requires { row < 4 }
     ensures { result ≡ part K256 (16 * row) 16 }
 {
-    if row == 0 {
-        return K[0];
-    }
-    if row == 1 {
-        return K[1];
-    }
-    if row == 2 {
-        return K[2];
-    }
-    K[3]
+    K[row]
 }
 
 pub fn initial() -> [u32; 8]

@@ -1,20 +1,6 @@
-// The operations and functions on words of 32 bits, sections 3.2 and 4.1.2.
+// The functions on words of 32 bits, section 4.1.2. The operations of 3.2 are the library's: x + y is `wrapping_add`, ROTR `rotate_right`.
 ghost use Rattle.std.specs.Prelude.{◌≡◌, ◌<◌};
-ghost use Rattle.digest_sha2.specs.Sha2.{plus, rotr, ch, maj, rotr³, rotr²shr};
-
-pub fn add(x: u32, y: u32) -> u32
-    ensures { result ≡ plus 32 x y }
-{
-    std::num::wrapping_add_u32(x, y)
-}
-
-fn rotr(x: u32, n: u32) -> u32
-    requires n_nonzero { 0 < n }
-    requires n_bound { n < 32 }
-    ensures { result ≡ rotr 32 n x }
-{
-    (x >> n) | (x << (32 - n))
-}
+ghost use Rattle.digest_sha2.specs.Sha2.{ch, maj, rotr³, rotr²shr};
 
 // In three operations where the standard's form has four: Choose, of proofs/, says that they agree.
 pub fn ch(x: u32, y: u32, z: u32) -> u32
@@ -39,7 +25,7 @@ fn rotations(x: u32, a: u32, b: u32, c: u32) -> u32
     requires c_bound { c < 32 }
     ensures { result ≡ rotr³ 32 a b c x }
 {
-    rotr(x ^ rotr(x ^ rotr(x, c - b), b - a), a)
+    (x ^ (x ^ x.rotate_right(c - b)).rotate_right(b - a)).rotate_right(a)
 }
 
 fn rotations_shift(x: u32, a: u32, b: u32, c: u32) -> u32
@@ -49,7 +35,7 @@ fn rotations_shift(x: u32, a: u32, b: u32, c: u32) -> u32
     requires c_bound { c < 32 }
     ensures { result ≡ rotr²shr 32 a b c x }
 {
-    rotr(x ^ rotr(x, b - a), a) ^ (x >> c)
+    (x ^ x.rotate_right(b - a)).rotate_right(a) ^ (x >> c)
 }
 
 // Σ₀, Σ₁, σ₀, σ₁.

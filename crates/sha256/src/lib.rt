@@ -12,14 +12,12 @@ mod stream;
 
 pub use stream::Hasher;
 
-// Bytes of a word and of a block, words of a block and of a hash value.
+// Bytes of a word and of a block, words of a block.
 const WORD: usize = 4;
 
 const BLOCK: usize = 64;
 
 const WORDS: usize = 16;
-
-const STATE: usize = 8;
 
 // The last of the turns of sixteen rounds, counted from 0, and how many rounds of it are made at once.
 const LAST: usize = 3;

@@ -4,7 +4,7 @@ ghost use Rattle.words.specs.Bytes.{zeros};
 ghost use Rattle.digest_sha2.specs.Sha2.{all_bytes, padding};
 ghost use Rattle.digest_sha2.specs.Sha256.{v256};
 
-use crate::{BLOCK, STATE, WORD};
+use crate::{BLOCK, WORD};
 use words::{copy, put_big};
 
 // Bytes of the length field, and the bit 1 that comes first, in its byte.
@@ -12,16 +12,19 @@ const LENGTH: usize = 8;
 
 const ONE: u8 = 0x80;
 
+// How many bytes of a block are left over after `total`. A cast: from u64 to usize the library has `try_from` alone, and no number here is refused.
+pub fn begun(total: u64) -> usize
+    ensures { result ≡ total % 64 }
+{
+    (total % (BLOCK as u64)) as usize
+}
+
 // How many blocks the last ones are, after `total` bytes.
 pub fn last_blocks(total: u64) -> usize
     ensures result_value { 64 * result ≡ total % 64 + length (padding v256 total) }
     ensures upper_bound { result ≤ 2 }
 {
-    if total % (BLOCK as u64) < ((BLOCK - LENGTH) as u64) {
-        1
-    } else {
-        2
-    }
+    if begun(total) < BLOCK - LENGTH { 1 } else { 2 }
 }
 
 // The last blocks, after `total` bytes of which `left` are left over, written over zeros.
@@ -42,10 +45,8 @@ pub fn bytes_of(s: [u32; 8]) -> [u8; 32]
     ensures { result ≡ all_bytes 4 s }
 {
     let mut d = [0u8; 32];
-    let mut i = 0;
-    while i < STATE {
-        put_big(&mut d, WORD * i, WORD, s[i] as u64);
-        i += 1;
+    for (i, x) in s.iter().enumerate() {
+        put_big(&mut d, WORD * i, WORD, u64::from(*x));
     }
     d
 }

@@ -7,21 +7,19 @@ ghost use Rattle.digest_sha2.specs.Turns.{Follows, Window};
 ghost use Rattle.digest_sha2.specs.Sha256.{v256};
 
 use crate::{WORD, WORDS};
-use digest_sha2::functions32::{add, small0, small1};
+use digest_sha2::functions32::{small0, small1};
 use words::get_big32;
 
-// The sixteen words of the block at `at`.
-pub fn load(b: &[u8], at: usize, w: &mut [u32; 16])
-    requires at_in_bounds { at + 64 ≤ length b.now }
-    requires w_len { length w.old ≡ 16 }
-    ensures w_len_2 { length w.new ≡ 16 }
-    ensures w_after { w.new ≡ words_of 4 16 (part b.now at 64) }
+// The sixteen words of a block.
+pub fn load(b: &[u8]) -> [u32; 16]
+    requires { length b.now ≡ 64 }
+    ensures { result ≡ words_of 4 16 b.now }
 {
-    let mut t = 0;
-    while t < WORDS {
-        w[t] = get_big32(b, at + WORD * t);
-        t += 1;
+    let mut w = [0u32; 16];
+    for (t, x) in w.iter_mut().enumerate() {
+        *x = get_big32(b, WORD * t);
     }
+    w
 }
 
 // The word sixteen after the one at place i, where those before it are overwritten already.
@@ -30,9 +28,10 @@ pub fn next(w: &[u32; 16], i: usize) -> u32
     requires w_len { length w.now ≡ 16 }
     ensures { (ws : List ℕ) (t : ℕ) → Follows v256 ws → t + i + 16 < 64 → Window ws w.now t i → result ≡ slice_index ws (t + i + 16) }
 {
-    let a = small1(w[(i + 14) % WORDS]);
-    let b = small0(w[(i + 1) % WORDS]);
-    add(add(add(a, w[(i + 9) % WORDS]), b), w[i])
+    small1(w[(i + 14) % WORDS])
+        .wrapping_add(w[(i + 9) % WORDS])
+        .wrapping_add(small0(w[(i + 1) % WORDS]))
+        .wrapping_add(w[i])
 }
 
 // That word in the place of the one at i.
@@ -42,6 +41,5 @@ pub fn renew(w: &mut [u32; 16], i: usize)
     ensures w_len_2 { length w.new ≡ 16 }
     ensures by_index { (ws : List ℕ) (t : ℕ) → Follows v256 ws → t + i + 16 < 64 → Window ws w.old t i → Window ws w.new t (i + 1) }
 {
-    let x = next(w, i);
-    w[i] = x;
+    w[i] = next(w, i);
 }

@@ -1,11 +1,11 @@
 // A hash in the making: bytes go in part by part, so that a caller copies none of them together.
-ghost use Rattle.std.specs.Prelude.{◌≡◌, ℕ, ◌+◌, ◌*◌, ◌%◌, ◌<◌, ◌≤◌, List, [], length};
+ghost use Rattle.std.specs.Prelude.{◌≡◌, ℕ, ◌+◌, ◌/◌, ◌%◌, ◌<◌, ◌≤◌, List, [], length};
 ghost use Rattle.digest_sha2.specs.Sha2.{after};
 ghost use Rattle.digest_sha2.specs.Sha256.{v256, sha256};
 ghost use Rattle.sha256.specs.Stream.{Holds, Grown};
 
 use crate::BLOCK;
-use crate::padding::{bytes_of, last, last_blocks};
+use crate::padding::{begun, bytes_of, last, last_blocks};
 use crate::rounds::compress;
 use digest_sha2::constants256::initial;
 use words::copy;
@@ -22,9 +22,8 @@ impl Hasher {
     pub fn new() -> Self
         ensures { Holds result [] }
     {
-        let h = initial();
         Hasher {
-            state: h,
+            state: initial(),
             block: [0; 64],
             total: 0,
         }
@@ -34,34 +33,27 @@ impl Hasher {
     pub fn absorb(self, part: &[u8]) -> Self
         ensures { Grown self part.now result }
     {
-        let a = head(self.total, part.len());
-        let first = little(self, &part[..a]);
-        if a == part.len() {
+        let (front, rest) = part.split_at(head(self.total, part.len()));
+        let first = little(self, front);
+        if rest.is_empty() {
             return first;
         }
-        let n = (part.len() - a) / BLOCK;
-        let e = a + BLOCK * n;
-        let middle = whole(first, &part[a..e], n);
-        little(middle, &part[e..])
+        let (middle, end) = rest.split_at(rest.len() / BLOCK * BLOCK);
+        little(whole(first, middle), end)
     }
 
     pub fn finish(self) -> [u8; 32]
         ensures { (bs : List ℕ) → Holds self bs → result ≡ sha256 bs }
     {
-        let at = begun(self.total);
-        let block = self.block;
+        let Hasher {
+            state,
+            block,
+            total,
+        } = self;
         let mut p = [0u8; 128];
-        last(&mut p, &block[..at], self.total);
-        let state = self.state;
-        bytes_of(blocks(state, &p, last_blocks(self.total)))
+        last(&mut p, &block[..begun(total)], total);
+        bytes_of(blocks(state, &p[..BLOCK * last_blocks(total)]))
     }
-}
-
-// How many bytes of a block are left over after `total`.
-fn begun(total: u64) -> usize
-    ensures { result ≡ total % 64 }
-{
-    (total % (BLOCK as u64)) as usize
 }
 
 // How many bytes of a part of `len` go to the block that is begun: as many as there are, or as it has room for.
@@ -74,7 +66,7 @@ fn head(total: u64, len: usize) -> usize
     if at == 0 {
         return 0;
     }
-    if len < BLOCK - at { len } else { BLOCK - at }
+    len.min(BLOCK - at)
 }
 
 // Some bytes more, no more than the block has room for.
@@ -83,52 +75,38 @@ fn little(h: Hasher, part: &[u8]) -> Hasher
     ensures { Grown h part.now result }
 {
     let at = begun(h.total);
-    let total = std::num::wrapping_add_u64(h.total, part.len() as u64);
     let mut block = h.block;
     copy(&mut block, at, part);
-    let state = h.state;
-    if at + part.len() == BLOCK {
-        let s = blocks(state, &block, 1);
-        return Hasher {
-            state: s,
-            block: block,
-            total: total,
-        };
-    }
+    let state = if at + part.len() == BLOCK {
+        blocks(h.state, &block)
+    } else {
+        h.state
+    };
     Hasher {
-        state: state,
-        block: block,
-        total: total,
+        state,
+        block,
+        total: h.total.wrapping_add(part.len() as u64),
     }
 }
 
-// The hash value after n blocks of `part` more.
-fn blocks(start: [u32; 8], part: &[u8], n: usize) -> [u32; 8]
-    requires { 64 * n ≤ length part.now }
-    ensures { result ≡ after v256 start n part.now }
+// The hash value after the blocks of `part`.
+fn blocks(start: [u32; 8], part: &[u8]) -> [u32; 8]
+    requires { length part.now % 64 ≡ 0 }
+    ensures { result ≡ after v256 start (length part.now / 64) part.now }
 {
-    let mut s = start;
-    let mut i = 0;
-    while i < n {
-        let after = compress(s, part, BLOCK * i);
-        s = after;
-        i += 1;
-    }
-    s
+    part.chunks_exact(BLOCK).fold(start, compress)
 }
 
 // Whole blocks more, where no block is begun.
-fn whole(h: Hasher, part: &[u8], n: usize) -> Hasher
+fn whole(h: Hasher, part: &[u8]) -> Hasher
     requires total_value { h.total % 64 ≡ 0 }
-    requires part_len { length part.now ≡ 64 * n }
+    requires part_len { length part.now % 64 ≡ 0 }
     ensures { Grown h part.now result }
 {
-    let state = h.state;
     let block = h.block;
-    let s = blocks(state, part, n);
     Hasher {
-        state: s,
-        block: block,
-        total: std::num::wrapping_add_u64(h.total, part.len() as u64),
+        state: blocks(h.state, part),
+        block,
+        total: h.total.wrapping_add(part.len() as u64),
     }
 }

@@ -6,31 +6,12 @@ use Rattle.sha256.proofs.padding.bytes_of.Goals as goal
 
 pub loop-i-init : goal.loop-i-init
 unfolding all_bytes
-loop-i-init c = ((omega arith, refl), refl)
-
-pub overflow_mul-i : goal.overflow_mul-i
-overflow_mul-i c = omega arith
-
-pub offset_bounds-s-i : goal.offset_bounds-s-i
-offset_bounds-s-i c = omega arith
-
-pub put_big-requires : goal.put_big-requires
-put_big-requires c = omega arith
-
-pub overflow_add-i : goal.overflow_add-i
-overflow_add-i c = omega arith
-
-pub loop-i-smaller : goal.loop-i-smaller
-loop-i-smaller c = omega arith
+loop-i-init c = (refl, refl)
 
 pub loop-i-preserved : goal.loop-i-preserved
 loop-i-preserved c =
     let l = c.loop-i in
-    let s = c.args.s in
-    let n : length s ≡ 8 = search rules in (
-      (omega arith, c.put_big.auto.s ∙ l.invariant.0.1),
-      rw (← c.put_big.ensures) at (all_more 4 s l.d l.i (omega arith) (omega arith) l.invariant.1),
-    )
+    (c.put_big.auto.s ∙ l.invariant.0, cc (all_more 4 c.args.s l.d l.i (omega arith) (omega arith) l.invariant.1))
 
 pub returns : goal.returns
 returns c =

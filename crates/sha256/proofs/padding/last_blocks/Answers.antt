@@ -3,8 +3,8 @@ use Rattle.std.proofs.Common.{arith}
 use Rattle.sha256.proofs.Padded.{length-padding}
 use Rattle.sha256.proofs.padding.last_blocks.Goals as goal
 
-pub returns-then-total : goal.returns-then-total
-returns-then-total c = record { result_value = rw (length-padding c.args.total) (omega arith); upper_bound = omega arith }
+pub returns-then-begun-clause-result_value : goal.returns-then-begun-clause-result_value
+returns-then-begun-clause-result_value c = rw (length-padding c.args.total) (omega arith)
 
-pub returns-else-total : goal.returns-else-total
-returns-else-total c = record { result_value = rw (length-padding c.args.total) (omega arith); upper_bound = omega arith }
+pub returns-else-begun-clause-result_value : goal.returns-else-begun-clause-result_value
+returns-else-begun-clause-result_value c = rw (length-padding c.args.total) (omega arith)

@@ -9,13 +9,7 @@ use Rattle.digest_sha2.proofs.Rounds.{reached-start}
 use Rattle.sha256.proofs.rounds.rounds.Goals as goal
 
 pub loop-row-init : goal.loop-row-init
-loop-row-init c = ((omega arith, c.requires), reached-start v256 48 c.args.start c.args.w.now c.requires)
-
-pub overflow_add-row : goal.overflow_add-row
-overflow_add-row c = omega arith
-
-pub loop-row-smaller : goal.loop-row-smaller
-loop-row-smaller c = omega arith
+loop-row-init c = (c.requires, reached-start v256 48 c.args.start c.args.w.now c.requires)
 
 pub loop-row-preserved : goal.loop-row-preserved
 loop-row-preserved c =
@@ -24,12 +18,12 @@ loop-row-preserved c =
     let ws = extend v256 48 m in
     let e : 16 * l.row + 16 ≡ 16 * (l.row + 1) = omega arith in
     let p : Reached v256 ws c.args.start (16 * l.row + 16) 0 c.turn.new.s c.turn.new.w =
-    c.turn.ensures.by_index ws c.args.start (16 * l.row) (follows v256 48 m c.requires refl) (omega arith) c.constants-k.ensures l.invariant.1 in
-    ((omega arith, c.turn.ensures.w_len_2), subst (λ (t : ℕ). Reached v256 ws c.args.start t 0 c.turn.new.s c.turn.new.w) e p)
+    c.turn.ensures.by_index ws c.args.start (16 * l.row) (follows v256 48 m c.requires refl) (omega arith) c.constants.ensures l.invariant.1 in
+    (c.turn.ensures.w_len_2, subst (λ (t : ℕ). Reached v256 ws c.args.start t 0 c.turn.new.s c.turn.new.w) e p)
 
 pub returns : goal.returns
 returns c =
     let l = c.loop-row in
     let ws = extend v256 48 c.args.w.now in
     let e : l.row ≡ 3 = omega arith in
-    c.last_turn.ensures ws c.args.start 48 c.constants-k-2.ensures (subst (λ (q : ℕ). Reached v256 ws c.args.start (16 * q) 0 l.s l.w) e l.invariant.1)
+    c.last_turn.ensures ws c.args.start 48 c.constants-2.ensures (subst (λ (q : ℕ). Reached v256 ws c.args.start (16 * q) 0 l.s l.w) e l.invariant.1)

@@ -1,35 +1,21 @@
--- `sha256::stream::blocks` meets its contract: after i turns it is the hash value after i blocks. Assumes nothing.
-use Rattle.std.proofs.Common.{◌≡◌, ℕ, refl, subst, arith}
-use Rattle.digest_sha2.specs.Sha2.{after}
+-- `sha256::stream::blocks` meets its contract: the chunks are the blocks, and the hash value goes through them. Assumes nothing.
+use Rattle.std.proofs.Common.{◌≡◌, ℕ, ◌/◌, List, length, get_or, ap, sym, ◌∙◌, Bor, arith, rules}
+use Rattle.std.specs.Slice.Iter.{chunks_exact_size, chunks_exact_rest}
+use Rattle.digest_sha2.specs.Sha2.{after, compress}
 use Rattle.digest_sha2.specs.Sha256.{v256}
-use Rattle.digest_sha2.proofs.Blocks.{after_more}
+use Rattle.sha256.proofs.Folded.{folded, given}
 use Rattle.sha256.proofs.stream.blocks.Goals as goal
-
-pub loop-i-init : goal.loop-i-init
-unfolding after
-loop-i-init c = (omega arith, refl)
-
-pub overflow_mul-i : goal.overflow_mul-i
-overflow_mul-i c = omega arith
-
-pub compress-after-requires : goal.compress-after-requires
-compress-after-requires c = omega arith
-
-pub overflow_add-i : goal.overflow_add-i
-overflow_add-i c = omega arith
-
-pub loop-i-smaller : goal.loop-i-smaller
-loop-i-smaller c = omega arith
-
-pub loop-i-preserved : goal.loop-i-preserved
-loop-i-preserved c =
-    let l = c.loop-i in
-    let a = c.args in
-    (omega arith, after_more v256 a.start l.s c.compress-after.result a.part.now l.i l.invariant.1 c.compress-after.ensures)
 
 pub returns : goal.returns
 returns c =
-    let l = c.loop-i in
-    let a = c.args in
-    let e : l.i ≡ a.n = omega arith in
-    subst (λ (i : ℕ). l.s ≡ after v256 a.start i a.part.now) e l.invariant.1
+    let r = c.fold.ensures.runs in
+    let p = r.0 in
+    let bs = c.args.part.now in
+    let size : chunks_exact_size p.from ≡ 64 = ap chunks_exact_size r.1 ∙ c.chunks_exact.ensures.size in
+    let rest : chunks_exact_rest p.from ≡ bs = ap chunks_exact_rest r.1 ∙ c.chunks_exact.ensures.rest in
+    let o = rw (size, rest) at (c.chunks_exact.ensures.runs p p.seen (omega arith)) in
+    let n : length p.items ≡ length bs / 64 = sym p.long ∙ o.1 r.2 in
+    let f = r.3 (λ (s : List ℕ) (x : Bor (List ℕ)). compress v256 s x.now) (λ s x t f' k. search rules) in
+    f ∙ folded v256 (λ (x : Bor (List ℕ)). x.now) c.args.start p.items bs (omega arith)
+    (λ k d h. (given _ (p.at k) (get_or p.items k d) (p.reads k d (omega (arith, p.long))) (o.2 k)).2.0)
+    ∙ ap (λ (m : ℕ). after v256 c.args.start m bs) n

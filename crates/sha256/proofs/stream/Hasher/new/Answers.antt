@@ -5,4 +5,4 @@ use Rattle.sha256.proofs.stream.Hasher.new.Goals as goal
 
 pub returns : goal.returns
 unfolding after
-returns c = record { hash = c.initial-h.ensures; left = refl; count = refl }
+returns c = record { hash = c.initial.ensures; left = refl; count = refl }
