@@ -2,10 +2,10 @@
 use Prim.Native.Nat.{ℕ, suc, ◌+◌, ◌*◌, ◌-◌, ◌<◌, ◌≤◌}
 use mathlib.Core.Path.{◌≡◌, refl, sym, ap, ap₂, ◌∙◌}
 use mathlib.Core.List.{List, [], ◌∷◌}
+use mathlib.Core.Logic.{◌⊎◌, inl, inr}
 use native.Mathlib.Omega.{arith}
-use native.Mathlib.Numerals.{add-one}
-use lib.ListN.{length, drop, get_or, length-drop, drop_of_length-le}
-use lib.Seq.{drop-cons, get_or-drop}
+use lib.ListN.{length, drop, get_or, length-drop}
+use lib.Seq.{get_or-drop}
 use lib.Dec.{eqb}
 use borrow.Author.Tests.{eq-eqb, ne_eqb}
 use Rattle.words.specs.Bytes.{part, splice, zeros}
@@ -63,6 +63,10 @@ pub fit_at : (bank ps : List ℕ) → Bytes bank → Inside bank ps → AllFit r
 fit_at bank [] b f = tt
 fit_at bank (p ∷ ps) b f = (fits_in bank p b (f 0 (omega arith)), fit_at bank ps b (λ i h. f (suc i) (omega arith)))
 
+-- the first of several places in a bank, and the others
+pub inside-next : (bank qs ps : List ℕ) (p : ℕ) → qs ≡ p ∷ ps → Inside bank qs → (slot_len * p + slot_len ≤ length bank) × Inside bank ps
+inside-next bank qs ps p e f = let g : Inside bank (p ∷ ps) = rw e at f in (g 0 (omega arith), λ i h. g (suc i) (omega arith))
+
 -- ---- a slot that is copied: into an array of its own, and out of it
 
 pub slot-copied : (src : List ℕ) (from : ℕ) → Bytes src → from + slot_len ≤ length src
@@ -73,28 +77,23 @@ slot-copied src from b h =
     ∙ splice-whole (zeros slot_len) (part src from slot_len) (length_part src from slot_len h)
     ∙ sym (slot-block record_len (drop from src) (bytes_drop from src b) (omega (arith, length-drop from src)))
 
--- ---- slots of a height, laid one after another: what is left after i places
+-- ---- slots of a height, laid one after another: the next place is at it or not
 
-abbrev pub left_of : ℕ → List ℕ → List ℕ → List ℕ → ℕ → List Block
-left_of h hs bank ps i = pick h (drop i hs) (blocks_at bank (drop i ps))
-
-module _ (h : ℕ) (hs bank ps : List ℕ) (i : ℕ) (k : i < length hs) (m : i < length ps) where
-  pub left-hit : get_or hs i 0 ≡ h → left_of h hs bank ps i ≡ block_in bank (get_or ps i 0) ∷ left_of h hs bank ps (i + 1)
+module _ (h k p : ℕ) (hs bank ps : List ℕ) where
+  pub pick-hit : k ≡ h → pick h (k ∷ hs) (blocks_at bank (p ∷ ps)) ≡ block_in bank p ∷ pick h hs (blocks_at bank ps)
   unfolding pick
-  left-hit e = rw (drop-cons hs i 0 k, drop-cons ps i 0 m, eq-eqb (get_or hs i 0) h e, add-one i)
+  pick-hit e = rw (eq-eqb k h e)
 
-  pub left-miss : (get_or hs i 0 ≡ h → ⊥) → left_of h hs bank ps i ≡ left_of h hs bank ps (i + 1)
+  pub pick-miss : (k ≡ h → ⊥) → pick h (k ∷ hs) (blocks_at bank (p ∷ ps)) ≡ pick h hs (blocks_at bank ps)
   unfolding pick
-  left-miss e = rw (drop-cons hs i 0 k, drop-cons ps i 0 m, ne_eqb (get_or hs i 0) h e, add-one i)
+  pick-miss e = rw (ne_eqb k h e)
 
-pick-nil : (h : ℕ) (ks : List ℕ) → pick {A = Block} h ks [] ≡ []
+pub pick-end : (h : ℕ) (hs bank ps : List ℕ) → (ps ≡ []) ⊎ (hs ≡ []) → pick h hs (blocks_at bank ps) ≡ []
 unfolding pick
-pick-nil h [] = refl
-pick-nil h (k ∷ ks) = refl
-
-pub left_end : (h : ℕ) (hs bank ps : List ℕ) (i : ℕ) → length ps ≤ i → left_of h hs bank ps i ≡ []
-left_end h hs bank ps i e =
-    ap (λ (l : List ℕ). pick h (drop i hs) (blocks_at bank l)) (drop_of_length-le ps e) ∙ pick-nil h (drop i hs)
+pick-end h [] bank ps e = refl
+pick-end h (k ∷ hs) bank [] e = refl
+pick-end h (k ∷ hs) bank (p ∷ ps) (inl e) = cc
+pick-end h (k ∷ hs) bank (p ∷ ps) (inr e) = cc
 
 -- a slot is laid: what is left begins with its block
 pub laid-turn : (dst next whole : List ℕ) (k : ℕ) (b : Block) (left right : List Block) → left ≡ b ∷ right → Fits record_len b → k + slot_len ≤ length dst

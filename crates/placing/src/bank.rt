@@ -8,12 +8,6 @@ ghost use Rattle.placing.specs.Bank.{blocks_at, Inside};
 
 use sizes::Sizes;
 
-pub fn wide(x: u16) -> usize
-    ensures { (result ≡ x) × (result < 65536) }
-{
-    x as usize
-}
-
 // The slot of `src` at `from` into `dst` at `at`. It goes through an array of its own, which cannot overlap with either: so it is copied in a few
 // wide moves and not byte by byte.
 pub fn copy_slot(dst: &mut [u8], at: usize, src: &[u8], from: usize)
@@ -34,15 +28,11 @@ fn lay(dst: &mut [u8], a: usize, h: u8, at: &[u8], places: &[u16], bank: &[u8]) 
     ensures dst_after { dst.new ≡ splice dst.old a (slots_bytes (pick h at.now (blocks_at bank.now places.now))) }
 {
     let mut k = a;
-    let mut i = 0;
-    while i < places.len() {
-        if at[i] != h {
-            i += 1;
-            continue;
+    for (place, height) in places.iter().zip(at) {
+        if *height == h {
+            copy_slot(dst, k, bank, Sizes::SLOT * usize::from(*place));
+            k += Sizes::SLOT;
         }
-        copy_slot(dst, k, bank, Sizes::SLOT * wide(places[i]));
-        k += Sizes::SLOT;
-        i += 1;
     }
     k
 }
