@@ -1,21 +1,23 @@
 -- Blocks of a bank, and slots laid one behind another. Assumes nothing.
 use Prim.Native.Nat.{ℕ, suc, ◌+◌, ◌*◌, ◌-◌, ◌<◌, ◌≤◌}
 use mathlib.Core.Path.{◌≡◌, refl, sym, ap, ap₂, ◌∙◌}
-use mathlib.Core.List.{List, [], ◌∷◌}
+use mathlib.Core.List.{List, [], ◌∷◌, ◌++◌}
 use mathlib.Core.Logic.{◌⊎◌, inl, inr}
 use native.Mathlib.Omega.{arith}
-use lib.ListN.{length, drop, get_or, length-drop}
+use lib.ListN.{length, take, drop, get_or, length-drop}
 use lib.Seq.{get_or-drop}
 use lib.Dec.{eqb}
 use borrow.Author.Tests.{eq-eqb, ne_eqb}
-use Rattle.words.specs.Bytes.{part, splice, zeros}
+use Rattle.std.proofs.Math.Seq.{drop-append_seam}
+use Rattle.std.proofs.lemmas.List.{take_at}
+use Rattle.words.specs.Bytes.{splice, zeros}
 use Rattle.words.specs.Numbers.{number}
 use Rattle.words.proofs.Splice.{length_part, splice-whole, splice-next, splice-nil}
 use Rattle.words.proofs.Numbers.{number-drop}
 use Rattle.words.proofs.Tests.{by_cases}
 use Rattle.sizes.specs.Sizes.{record_len, slot_len, leaf_in}
-use Rattle.slots.specs.Slots.{Block, block_by, blocks_of, slot_bytes, slots_bytes, Fits, AllFit, Bytes, slots_with}
-use Rattle.slots.proofs.Blocks.{slot-block, block-fits, block_at, length-slot, length-slots, length-blocks}
+use Rattle.slots.specs.Slots.{Block, block_by, blocks_by, blocks_of, slot_bytes, slots_bytes, Fits, AllFit, Bytes, slots_with}
+use Rattle.slots.proofs.Blocks.{slot-block, block-fits, block-part, block_at, length-slot, length-slots, length-blocks}
 use Rattle.placing.specs.Ids.{Placeable}
 use Rattle.placing.specs.Walk.{pick}
 use Rattle.placing.specs.Order.{no_block, block_of, blocks_on}
@@ -63,19 +65,24 @@ pub fit_at : (bank ps : List ℕ) → Bytes bank → Inside bank ps → AllFit r
 fit_at bank [] b f = tt
 fit_at bank (p ∷ ps) b f = (fits_in bank p b (f 0 (omega arith)), fit_at bank ps b (λ i h. f (suc i) (omega arith)))
 
+-- slots one behind another: the first one, and the others
+pub slot-next : (xs slot rest : List ℕ) (n m : ℕ) → xs ≡ slot ++ rest → length slot ≡ slot_len → m + 1 ≡ n → blocks_of n xs ≡ block_by record_len slot ∷ blocks_of m rest
+unfolding blocks_by
+slot-next xs slot rest n m e l k =
+    let s : n ≡ suc m = omega arith in
+    let t : take slot_len xs ≡ slot = ap (take slot_len) e ∙ take_at slot rest slot_len l in
+    let d : drop slot_len xs ≡ rest = ap (drop slot_len) e ∙ ap (λ (i : ℕ). drop i (slot ++ rest)) (sym l) ∙ drop-append_seam slot rest in
+    ap (λ (i : ℕ). blocks_of i xs) s
+    ∙ ap₂ (λ (b : Block) (bs : List Block). b ∷ bs) (sym (block-part record_len xs 0 slot_len (omega arith)) ∙ ap (block_by record_len) t) (ap (blocks_of m) d)
+
 -- the first of several places in a bank, and the others
 pub inside-next : (bank qs ps : List ℕ) (p : ℕ) → qs ≡ p ∷ ps → Inside bank qs → (slot_len * p + slot_len ≤ length bank) × Inside bank ps
 inside-next bank qs ps p e f = let g : Inside bank (p ∷ ps) = rw e at f in (g 0 (omega arith), λ i h. g (suc i) (omega arith))
 
 -- ---- a slot that is copied: into an array of its own, and out of it
 
-pub slot-copied : (src : List ℕ) (from : ℕ) → Bytes src → from + slot_len ≤ length src
-    → splice (zeros slot_len) 0 (part src from (from + slot_len - from)) ≡ slot_bytes (block_by record_len (drop from src))
-slot-copied src from b h =
-    let k : from + slot_len - from ≡ slot_len = omega arith in
-    ap (λ (n : ℕ). splice (zeros slot_len) 0 (part src from n)) k
-    ∙ splice-whole (zeros slot_len) (part src from slot_len) (length_part src from slot_len h)
-    ∙ sym (slot-block record_len (drop from src) (bytes_drop from src b) (omega (arith, length-drop from src)))
+pub slot-copied : (src : List ℕ) → Bytes src → slot_len ≤ length src → splice (zeros slot_len) 0 (take slot_len src) ≡ slot_bytes (block_by record_len src)
+slot-copied src b h = splice-whole (zeros slot_len) (take slot_len src) (length_part src 0 slot_len h) ∙ sym (slot-block record_len src b h)
 
 -- ---- slots of a height, laid one after another: the next place is at it or not
 

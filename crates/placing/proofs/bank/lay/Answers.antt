@@ -1,12 +1,14 @@
 -- `placing::bank::lay` meets its contract: before each turn, laying from k on what is left gives the whole. Assumes nothing.
-use Prim.Native.Nat.{ℕ, ◌+◌, ◌≤◌}
+use Prim.Native.Nat.{ℕ, ◌+◌, ◌*◌, ◌-◌, ◌≤◌}
 use mathlib.Core.Path.{◌≡◌, sym, ap, ap₂, ◌∙◌}
 use mathlib.Core.List.{List, ◌∷◌}
 use native.Mathlib.Omega.{arith}
-use lib.ListN.{length}
+use lib.ListN.{length, drop, length-drop}
+use Rattle.words.specs.Bytes.{part, splice}
 use Rattle.std.proofs.lemmas.Slice.Zip.{either_empty_from_Zip}
-use Rattle.sizes.specs.Sizes.{slot_len}
-use Rattle.slots.specs.Slots.{Block}
+use Rattle.sizes.specs.Sizes.{record_len, slot_len}
+use Rattle.slots.specs.Slots.{Block, block_by, slot_bytes}
+use Rattle.slots.proofs.Blocks.{block-part}
 use Rattle.placing.specs.Walk.{pick}
 use Rattle.placing.specs.Bank.{block_in, blocks_at}
 use Rattle.placing.proofs.Laid.{pick-hit, pick-miss, pick-end, inside-next, fits_in, laid-turn, slots-none}
@@ -22,7 +24,10 @@ copy_slot-requires c =
     let hit : left l.place-iterator.b.rest.now l.place-iterator.a.rest.now ≡ block_in a.bank.now c.in-Some.place.now ∷ left t.b.rest.now t.a.rest.now =
     ap₂ left e.1 e.0 ∙ pick-hit a.h c.in-Some.height.now c.in-Some.place.now t.b.rest.now a.bank.now t.a.rest.now c.if-height-h.true in
     let inside = inside-next a.bank.now l.place-iterator.a.rest.now t.a.rest.now c.in-Some.place.now e.0 l.invariant.0 in
-    (omega (arith, ap length hit, l.invariant.1, c.requires.places_in_bounds_2), rw c.from.ensures inside.0)
+    (
+      omega (arith, ap length hit, l.invariant.1, c.requires.places_in_bounds_2),
+      omega (arith, length-drop (slot_len * c.from-from.result) a.bank.now, inside.0, c.from-from.ensures),
+    )
 
 pub loop-place-preserved-then-height-h : goal.loop-place-preserved-then-height-h
 unfolding block_in
@@ -36,11 +41,15 @@ loop-place-preserved-then-height-h c =
     let hit : left l.place-iterator.b.rest.now l.place-iterator.a.rest.now ≡ block_in a.bank.now p ∷ left t.b.rest.now t.a.rest.now =
     ap₂ left e.1 e.0 ∙ pick-hit a.h c.in-Some.height.now p t.b.rest.now a.bank.now t.a.rest.now c.if-height-h.true in
     let inside = inside-next a.bank.now l.place-iterator.a.rest.now t.a.rest.now p e.0 l.invariant.0 in
-    let room : l.k + slot_len ≤ length l.dst = omega (arith, ap length hit, l.invariant.1, c.requires.places_in_bounds_2) in (
+    let room : l.k + slot_len ≤ length l.dst = omega (arith, ap length hit, l.invariant.1, c.requires.places_in_bounds_2) in
+    let bank = a.bank.now in
+    let from = slot_len * c.from-from.result in
+    let is : block_by record_len (part bank from (length bank - from)) ≡ block_in bank p =
+    block-part record_len bank from (length bank - from) (omega (arith, inside.0, c.from-from.ensures)) ∙ ap (λ (i : ℕ). block_by record_len (drop (slot_len * i) bank)) c.from-from.ensures in (
       inside.1,
       omega (arith, ap length hit, l.invariant.1),
       laid-turn l.dst c.copy_slot.new.dst _ l.k (block_in a.bank.now p) (left l.place-iterator.b.rest.now l.place-iterator.a.rest.now) (left t.b.rest.now t.a.rest.now) hit
-          (fits_in a.bank.now p (λ i. omega (arith, c.type_inv.bank i)) inside.0) room (rw c.from.ensures at c.copy_slot.ensures) l.invariant.2,
+          (fits_in a.bank.now p (λ i. omega (arith, c.type_inv.bank i)) inside.0) room (c.copy_slot.ensures ∙ ap (λ (b : Block). splice l.dst l.k (slot_bytes b)) is) l.invariant.2,
     )
 
 pub loop-place-preserved : goal.loop-place-preserved
