@@ -2,7 +2,6 @@
 -- A caller uses the fields of `Planned`, and the laws of placing on it. Assumes nothing.
 use Prim.Native.Nat.{ℕ, ◌+◌, ◌*◌, ◌≤◌, ◌<◌}
 use mathlib.Core.Path.{◌≡◌, refl, sym, ap, ap₂, subst, ◌∙◌}
-use mathlib.Core.Bool.{true}
 use Rattle.std.proofs.Common.{Option, Some, None, IfSome}
 use mathlib.Core.List.{List, [], ◌∷◌, ◌++◌, append_assoc}
 use native.Mathlib.Nat.{zero-add}
@@ -105,7 +104,7 @@ module _ (s : Sizes) (ids : ℕ) (opened : List ℕ) (n : ℕ) (stash : List ℕ
   fit-two = used-fit r.id s opened n op o.reach o.path_size
 
   fit-three : AllFit record_len three
-  fit-three = others-fit r.id count stash 0 st (omega (arith, o.stash_size))
+  fit-three = others-fit r.id count stash st o.stash_size
 
   -- the others among what is found
   others-are : two ++ three ≡ those (is_other r.id) (found s opened n stash count)

@@ -1,10 +1,10 @@
 -- Blocks of a bank, and slots laid one behind another. Assumes nothing.
-use Prim.Native.Nat.{ℕ, suc, ◌+◌, ◌*◌, ◌-◌, ◌<◌, ◌≤◌}
+use Prim.Native.Nat.{ℕ, zero, suc, ◌+◌, ◌*◌, ◌-◌, ◌<◌, ◌≤◌}
 use mathlib.Core.Path.{◌≡◌, refl, sym, ap, ap₂, ◌∙◌}
 use mathlib.Core.List.{List, [], ◌∷◌, ◌++◌}
 use mathlib.Core.Logic.{◌⊎◌, inl, inr}
 use native.Mathlib.Omega.{arith}
-use lib.ListN.{length, take, drop, get_or, length-drop}
+use lib.ListN.{length, take, drop, get_or, length-append, length-drop}
 use lib.Seq.{get_or-drop}
 use lib.Dec.{eqb}
 use borrow.Author.Tests.{eq-eqb, ne_eqb}
@@ -66,14 +66,32 @@ fit_at bank [] b f = tt
 fit_at bank (p ∷ ps) b f = (fits_in bank p b (f 0 (omega arith)), fit_at bank ps b (λ i h. f (suc i) (omega arith)))
 
 -- slots one behind another: the first one, and the others
-pub slot-next : (xs slot rest : List ℕ) (n m : ℕ) → xs ≡ slot ++ rest → length slot ≡ slot_len → m + 1 ≡ n → blocks_of n xs ≡ block_by record_len slot ∷ blocks_of m rest
-unfolding blocks_by
-slot-next xs slot rest n m e l k =
-    let s : n ≡ suc m = omega arith in
-    let t : take slot_len xs ≡ slot = ap (take slot_len) e ∙ take_at slot rest slot_len l in
-    let d : drop slot_len xs ≡ rest = ap (drop slot_len) e ∙ ap (λ (i : ℕ). drop i (slot ++ rest)) (sym l) ∙ drop-append_seam slot rest in
-    ap (λ (i : ℕ). blocks_of i xs) s
-    ∙ ap₂ (λ (b : Block) (bs : List Block). b ∷ bs) (sym (block-part record_len xs 0 slot_len (omega arith)) ∙ ap (block_by record_len) t) (ap (blocks_of m) d)
+module _ (xs slot rest : List ℕ) (cut : xs ≡ slot ++ rest) (long : length slot ≡ slot_len) where
+  slot-first : block_by record_len slot ≡ block_by record_len xs
+  slot-first = ap (block_by record_len) (sym (ap (take slot_len) cut ∙ take_at slot rest slot_len long)) ∙ block-part record_len xs 0 slot_len (omega arith)
+
+  slot-rest : rest ≡ drop slot_len xs
+  slot-rest = sym (ap (drop slot_len) cut ∙ ap (λ (i : ℕ). drop i (slot ++ rest)) (sym long) ∙ drop-append_seam slot rest)
+
+  pub slot-next : (n m : ℕ) → m + 1 ≡ n → blocks_of n xs ≡ block_by record_len slot ∷ blocks_of m rest
+  unfolding blocks_by
+  slot-next n m k =
+      let s : n ≡ suc m = omega arith in
+      ap (λ (i : ℕ). blocks_of i xs) s ∙ ap₂ (λ (b : Block) (bs : List Block). b ∷ bs) (sym slot-first) (ap (blocks_of m) (sym slot-rest))
+
+  pub slot-fits : Bytes xs → Fits record_len (block_by record_len slot)
+  slot-fits b = rw slot-first (block-fits record_len xs b (omega (arith, ap length cut, length-append slot rest)))
+
+  pub rest-bytes : Bytes xs → Bytes rest
+  rest-bytes b = rw slot-rest (bytes_drop slot_len xs b)
+
+  pub rest-long : (n m : ℕ) → m + 1 ≡ n → slot_len * n ≤ length xs → slot_len * m ≤ length rest
+  rest-long n m k h = omega (arith, ap length cut, length-append slot rest)
+
+-- as many of them as there are: a walk over n ends where none is left
+pub slots-over : (n : ℕ) (xs : List ℕ) → slot_len * n ≤ length xs → (0 < n → length xs < slot_len) → n ≡ 0
+slots-over zero xs h f = refl
+slots-over (suc n) xs h f = absurd (omega (arith, f (omega arith)))
 
 -- the first of several places in a bank, and the others
 pub inside-next : (bank qs ps : List ℕ) (p : ℕ) → qs ≡ p ∷ ps → Inside bank qs → (slot_len * p + slot_len ≤ length bank) × Inside bank ps
