@@ -2,7 +2,7 @@
 -- A caller uses the fields of `Planned`, and the laws of placing on it. Assumes nothing.
 use Prim.Native.Nat.{ℕ, ◌+◌, ◌*◌, ◌≤◌, ◌<◌}
 use mathlib.Core.Path.{◌≡◌, refl, sym, ap, ap₂, subst, ◌∙◌}
-use mathlib.Core.Bool.{Bool, true, false}
+use Rattle.std.proofs.Common.{Option, Some, None, IfSome}
 use mathlib.Core.List.{List, [], ◌∷◌, ◌++◌, append_assoc}
 use native.Mathlib.Nat.{zero-add}
 use native.Mathlib.Omega.{arith}
@@ -12,7 +12,7 @@ use borrow.Author.Tests.{eqb-true, eqb-false, ne_eqb, not-true}
 use Rattle.words.specs.Bytes.{splice}
 use Rattle.words.proofs.Tests.{by_cases}
 use Rattle.sizes.specs.declared.Sizes.{Sizes}
-use Rattle.sizes.specs.Sizes.{record_len, slot_len}
+use Rattle.sizes.specs.Sizes.{most_height, record_len, slot_len, leaves}
 use Rattle.sizes.proofs.Lengths.{leaves_most}
 use Rattle.bags.specs.Bags.{cnt, those, All, AllOf}
 use Rattle.bags.proofs.Bags.{cnt-append}
@@ -29,25 +29,25 @@ use Rattle.gathering.proofs.Taken.{others-fit, used-fit, taken_next}
 
 -- ---- the requested block and the others can be placed, where what is found can
 
-low-if : (there : Bool) (id leaf : ℕ) (bytes : List ℕ) → 1 ≤ id → AllOf (λ b. 1 ≤ b.id) (block_if there id leaf bytes)
-low-if true id leaf bytes h = (h, tt)
-low-if false id leaf bytes h = tt
+low-if : (id : ℕ) (leaf : Option ℕ) (bytes : List ℕ) → 1 ≤ id → AllOf (λ b. 1 ≤ b.id) (block_if id leaf bytes)
+low-if id (Some leaf) bytes h = (h, tt)
+low-if id None bytes h = tt
 
-high-if : (there : Bool) (ids id leaf : ℕ) (bytes : List ℕ) → id ≤ ids → AllOf (λ b. b.id ≤ ids) (block_if there id leaf bytes)
-high-if true ids id leaf bytes h = (h, tt)
-high-if false ids id leaf bytes h = tt
+high-if : (ids id : ℕ) (leaf : Option ℕ) (bytes : List ℕ) → id ≤ ids → AllOf (λ b. b.id ≤ ids) (block_if id leaf bytes)
+high-if ids id (Some leaf) bytes h = (h, tt)
+high-if ids id None bytes h = tt
 
-pub few-if : (there : Bool) (id leaf : ℕ) (bytes : List ℕ) → length (block_if there id leaf bytes) ≤ 1
-few-if true id leaf bytes = omega arith
-few-if false id leaf bytes = omega arith
+pub few-if : (id : ℕ) (leaf : Option ℕ) (bytes : List ℕ) → length (block_if id leaf bytes) ≤ 1
+few-if id (Some leaf) bytes = omega arith
+few-if id None bytes = omega arith
 
-count-if : (there : Bool) (id leaf i : ℕ) (bytes : List ℕ) → (id ≡ i → ⊥) → cnt (is_id i) (block_if there id leaf bytes) ≡ 0
-count-if true id leaf i bytes ne = rw (ne_eqb id i ne)
-count-if false id leaf i bytes ne = refl
+count-if : (id : ℕ) (leaf : Option ℕ) (i : ℕ) (bytes : List ℕ) → (id ≡ i → ⊥) → cnt (is_id i) (block_if id leaf bytes) ≡ 0
+count-if id (Some leaf) i bytes ne = rw (ne_eqb id i ne)
+count-if id None i bytes ne = refl
 
-count-le : (there : Bool) (id leaf i : ℕ) (bytes : List ℕ) → cnt (is_id i) (block_if there id leaf bytes) ≤ 1
-count-le true id leaf i bytes = by_cases (eqb id i) (λ e. rw e (omega arith)) (λ e. rw e (omega arith))
-count-le false id leaf i bytes = omega arith
+count-le : (id : ℕ) (leaf : Option ℕ) (i : ℕ) (bytes : List ℕ) → cnt (is_id i) (block_if id leaf bytes) ≤ 1
+count-le id (Some leaf) i bytes = by_cases (eqb id i) (λ e. rw e (omega arith)) (λ e. rw e (omega arith))
+count-le id None i bytes = omega arith
 
 pub placeable : (ids : ℕ) (r : Request) (bytes : List ℕ) (blocks : List Block) → Placeable ids blocks → 1 ≤ r.id → r.id ≤ ids
     → Placeable ids (requested r bytes ++ those (is_other r.id) blocks)
@@ -55,16 +55,16 @@ placeable ids r bytes blocks p l h =
     let bs = requested r bytes in
     let cs = those (is_other r.id) blocks in
     record {
-      low = all_append (λ b. 1 ≤ b.id) bs cs (low-if r.there r.id r.leaf bytes l) (all-those (is_other r.id) (λ b. 1 ≤ b.id) blocks p.low);
-      high = all_append (λ b. b.id ≤ ids) bs cs (high-if r.there ids r.id r.leaf bytes h) (all-those (is_other r.id) (λ b. b.id ≤ ids) blocks p.high);
+      low = all_append (λ b. 1 ≤ b.id) bs cs (low-if r.id r.leaf bytes l) (all-those (is_other r.id) (λ b. 1 ≤ b.id) blocks p.low);
+      high = all_append (λ b. b.id ≤ ids) bs cs (high-if ids r.id r.leaf bytes h) (all-those (is_other r.id) (λ b. b.id ≤ ids) blocks p.high);
       once = λ i.
           by_cases (eqb r.id i)
           (λ e.
           let q : r.id ≡ i = eqb-true r.id i e in
           let n : cnt (is_id i) cs ≡ 0 = cnt-those-none (is_other r.id) (is_id i) blocks (λ b f. rw (← q) (not-true (is_id r.id b) f)) in
-          omega (arith, cnt-append (is_id i) bs cs, count-le r.there r.id r.leaf i bytes))
+          omega (arith, cnt-append (is_id i) bs cs, count-le r.id r.leaf i bytes))
           (λ e.
-          omega (arith, cnt-append (is_id i) bs cs, count-if r.there r.id r.leaf i bytes (eqb-false r.id i e), cnt-those-le (is_other r.id) (is_id i) blocks, p.once i));
+          omega (arith, cnt-append (is_id i) bs cs, count-if r.id r.leaf i bytes (eqb-false r.id i e), cnt-those-le (is_other r.id) (is_id i) blocks, p.once i));
     }
 
 -- ---- what is in the bank
@@ -73,9 +73,14 @@ all-used : (bs : List Block) → AllOf (λ b. 1 ≤ b.id) bs → All is_used bs
 all-used [] a = tt
 all-used (b ∷ bs) a = (rw (ne_eqb b.id 0 (λ e. absurd (omega (arith, a.0)))), all-used bs a.1)
 
-fit-if : (there : Bool) (id leaf : ℕ) (bytes : List ℕ) → id < 65536 → leaf < 65536 → length bytes ≡ record_len → AllFit record_len (block_if there id leaf bytes)
-fit-if true id leaf bytes h k e = (record { id = h; leaf = k; size = e }, tt)
-fit-if false id leaf bytes h k e = tt
+fit-if : (id : ℕ) (leaf : Option ℕ) (bytes : List ℕ) → id < 65536 → IfSome leaf (λ l. l < 65536) → length bytes ≡ record_len → AllFit record_len (block_if id leaf bytes)
+fit-if id (Some leaf) bytes h k e = (record { id = h; leaf = k; size = e }, tt)
+fit-if id None bytes h k e = tt
+
+-- a leaf of the tree is a small number
+small-if : (s : Sizes) (leaf : Option ℕ) → s.height ≤ most_height → IfSome leaf (λ l. l < leaves s) → IfSome leaf (λ l. l < 65536)
+small-if s (Some leaf) h k = omega (arith, k, leaves_most s h)
+small-if s None h k = tt
 
 pub blocks-laid : (bank : List ℕ) (bs : List Block) → AllFit record_len bs → blocks_of (length bs) (splice bank 0 (slots_bytes bs)) ≡ bs
 unfolding splice
@@ -90,16 +95,16 @@ module _ (s : Sizes) (ids : ℕ) (opened : List ℕ) (n : ℕ) (stash : List ℕ
   two = those (is_other r.id) (used_to s opened n)
 
   abbrev three : List Block
-  three = others r.id (blocks_of count (drop 0 stash))
+  three = others r.id (blocks_of count stash)
 
   fit-one : AllFit record_len one
-  fit-one = fit-if r.there r.id r.leaf bytes (omega (arith, o.id_high, o.ids_at_most)) (omega (arith, o.new_leaf_low, leaves_most s o.range.height_high)) size
+  fit-one = fit-if r.id r.leaf bytes (omega (arith, o.id_high, o.ids_at_most)) (small-if s r.leaf o.range.height_high o.new_leaf_low) size
 
   fit-two : AllFit record_len two
   fit-two = used-fit r.id s opened n op o.reach o.path_size
 
   fit-three : AllFit record_len three
-  fit-three = others-fit r.id count stash 0 st (omega (arith, o.stash_size))
+  fit-three = others-fit r.id count stash st o.stash_size
 
   -- the others among what is found
   others-are : two ++ three ≡ those (is_other r.id) (found s opened n stash count)

@@ -1,5 +1,5 @@
 -- Finish, step 5, which blocks are placed: those of the opened slots and of the stash, the requested block under its new leaf. Assumes nothing.
-use Rattle.std.specs.Prelude.{ℕ, zero, suc, ◌+◌, ◌*◌, ◌≤◌, ◌<◌, ◌≡◌, Bool, true, false, not, List, [], ◌∷◌, ◌++◌, length}
+use Rattle.std.specs.Prelude.{ℕ, zero, suc, ◌+◌, ◌*◌, ◌≤◌, ◌<◌, ◌≡◌, Bool, not, Option, Some, None, IfSome, List, [], ◌∷◌, ◌++◌, length}
 use Rattle.words.specs.Bytes.{part}
 use Rattle.sizes.specs.declared.Sizes.{Sizes}
 use Rattle.sizes.specs.Sizes.{InRange, most_ids, leaves, counter_len, record_len, slot_len, slots_len, item_at, path_len, most_room}
@@ -26,13 +26,13 @@ found s opened n stash count = used_to s opened n ++ blocks_of count stash
 
 -- ---- what is placed
 
--- the requested block, if there is one, with the record that it carries on
-abbrev pub block_if : Bool → ℕ → ℕ → List ℕ → List Block
-block_if true id leaf bytes = record { id = id; leaf = leaf; bytes = bytes } ∷ []
-block_if false id leaf bytes = []
+-- the requested block, if it has a new leaf, with the record that it carries on
+abbrev pub block_if : ℕ → Option ℕ → List ℕ → List Block
+block_if id (Some leaf) bytes = record { id = id; leaf = leaf; bytes = bytes } ∷ []
+block_if id None bytes = []
 
 abbrev pub requested : Request → List ℕ → List Block
-requested r bytes = block_if r.there r.id r.leaf bytes
+requested r bytes = block_if r.id r.leaf bytes
 
 abbrev pub is_other : ℕ → Block → Bool
 is_other id b = not (is_id id b)
@@ -58,7 +58,7 @@ pub record Opened (s : Sizes) (ids : ℕ) (opened : List ℕ) (n : ℕ) (stash :
   pub blocks : Placeable ids (found s opened n stash count)
   pub id_low : 1 ≤ r.id
   pub id_high : r.id ≤ ids
-  pub new_leaf_low : r.leaf < leaves s
+  pub new_leaf_low : IfSome r.leaf (λ leaf. leaf < leaves s)
 
 -- of the buffers: room for the most blocks
 pub record Roomy (bank places at bytes : List ℕ) : Type 0 where

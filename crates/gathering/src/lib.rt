@@ -13,12 +13,11 @@ ghost use Rattle.gathering.specs.Gathering as spec;
 use placing::Counts;
 use sizes::Sizes;
 
-// The requested block: whether there is one to place, which a read of an id that was never written has not; its id and its new leaf.
+// The requested id, and the new leaf of its block, if there is one to place: a read of an id that was never written has none.
 #[derive(Clone, Copy, Drop)]
 pub struct Request {
-    pub there: bool,
     pub id: u16,
-    pub leaf: u16,
+    pub leaf: Option<u16>,
 }
 
 // The requested block into slot 0, if there is one; and how many that is.
@@ -26,34 +25,28 @@ fn put_request(bank: &mut [u8], request: Request, record: &[u8]) -> usize
     requires { (slot_len ≤ length bank.old) × (length «record».now ≡ record_len) }
     ensures { (result ≡ length (spec.requested request «record».now)) × (bank.new ≡ splice bank.old 0 (slots_bytes (spec.requested request «record».now))) }
 {
-    let there = request.there;
-    if there {
-        words::put16(bank, 0, request.id);
-        words::put16(bank, Sizes::LEAF_IN, request.leaf);
-        words::copy(bank, Sizes::SLOT_HEAD, record);
-        return 1;
-    }
-    0
+    let Some(leaf) = request.leaf else {
+        return 0;
+    };
+    words::put16(bank, 0, request.id);
+    words::put16(bank, Sizes::LEAF_IN, leaf);
+    words::copy(bank, Sizes::SLOT_HEAD, record);
+    1
 }
 
-// Takes the slots in use, but for those of `id`, among the `z` slots of `src` from `a` on, into the bank from slot `m` on; and says where they end.
-fn take_others(bank: &mut [u8], m: usize, src: &[u8], a: usize, z: usize, id: u16) -> usize
-    requires { (a + slot_len * z ≤ length src.now) × (slot_len * (m + z) ≤ length bank.old) }
-    ensures value { (result ≡ m + length (spec.others id (blocks_of z (drop a src.now)))) × (result ≤ m + z) }
-    ensures bank_after { bank.new ≡ splice bank.old (slot_len * m) (slots_bytes (spec.others id (blocks_of z (drop a src.now)))) }
+// Takes the slots in use, but for those of `id`, among the first `z` of `slots`, into the bank from slot `m` on; and says where they end.
+fn take_others(bank: &mut [u8], m: usize, slots: &[u8], z: usize, id: u16) -> usize
+    requires { (slot_len * z ≤ length slots.now) × (slot_len * (m + z) ≤ length bank.old) }
+    ensures value { (result ≡ m + length (spec.others id (blocks_of z slots.now))) × (result ≤ m + z) }
+    ensures bank_after { bank.new ≡ splice bank.old (slot_len * m) (slots_bytes (spec.others id (blocks_of z slots.now))) }
 {
     let mut k = m;
-    let mut j = 0;
-    while j < z {
-        let from = a + Sizes::SLOT * j;
-        let x = words::get16(src, from);
-        if (x == 0) | (x == id) {
-            j += 1;
-            continue;
+    for slot in slots.chunks_exact(Sizes::SLOT).take(z) {
+        let x = words::get16(slot, 0);
+        if (x != 0) & (x != id) {
+            placing::bank::copy_slot(bank, Sizes::SLOT * k, slot);
+            k += 1;
         }
-        placing::bank::copy_slot(bank, Sizes::SLOT * k, src, from);
-        k += 1;
-        j += 1;
     }
     k
 }
@@ -65,13 +58,10 @@ fn take_path(bank: &mut [u8], m: usize, opened: &[u8], s: Sizes, n: usize, id: u
     ensures value { (result ≡ m + length (those (spec.is_other id) (spec.used_to s opened.now n))) × (result ≤ m + most_slots * n) }
     ensures bank_after { bank.new ≡ splice bank.old (slot_len * m) (slots_bytes (those (spec.is_other id) (spec.used_to s opened.now n))) }
 {
-    let z = s.slots;
     let mut end = m;
-    let mut k = 0;
-    while k < n {
-        let at = s.item_at(k);
-        end = take_others(bank, end, opened, at + Sizes::COUNTER, z, id);
-        k += 1;
+    for k in 0..n {
+        let a = s.item_at(k) + Sizes::COUNTER;
+        end = take_others(bank, end, &opened[a..], s.slots, id);
     }
     end
 }
@@ -97,6 +87,6 @@ pub fn arrange(
     let id = request.id;
     let a = put_request(bank, request, record);
     let b = take_path(bank, a, opened, s, n, id);
-    let m = take_others(bank, b, stash, 0, count, id);
+    let m = take_others(bank, b, stash, count, id);
     placing::plan(bank, m, s, leaf, ids, places, at)
 }

@@ -17,7 +17,7 @@ use sizes::Sizes;
 pub struct View {
     pub sizes: Sizes,
     pub key: [u8; 32],
-    pub written: u8,
+    pub written: bool,
     pub root: [u8; Sizes::DIGEST],
     pub leaf: usize,
 }
@@ -126,16 +126,14 @@ pub fn reach(path: &[u8], v: View) -> usize
     requires { Carries v.sizes path.now }
     ensures { Reached v path.now result }
 {
-    if v.written != 1 {
+    if !v.written {
         return 0;
     }
     let s = v.sizes;
-    let mut k = 0;
-    while k < s.height {
+    for k in 0..s.height {
         if flag(path, s, k, s.side(v.leaf, k)) != 1 {
             return k + 1;
         }
-        k += 1;
     }
     s.height + 1
 }

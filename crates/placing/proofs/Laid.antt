@@ -1,21 +1,23 @@
 -- Blocks of a bank, and slots laid one behind another. Assumes nothing.
-use Prim.Native.Nat.{ℕ, suc, ◌+◌, ◌*◌, ◌-◌, ◌<◌, ◌≤◌}
+use Prim.Native.Nat.{ℕ, zero, suc, ◌+◌, ◌*◌, ◌-◌, ◌<◌, ◌≤◌}
 use mathlib.Core.Path.{◌≡◌, refl, sym, ap, ap₂, ◌∙◌}
-use mathlib.Core.List.{List, [], ◌∷◌}
+use mathlib.Core.List.{List, [], ◌∷◌, ◌++◌}
+use mathlib.Core.Logic.{◌⊎◌, inl, inr}
 use native.Mathlib.Omega.{arith}
-use native.Mathlib.Numerals.{add-one}
-use lib.ListN.{length, drop, get_or, length-drop, drop_of_length-le}
-use lib.Seq.{drop-cons, get_or-drop}
+use lib.ListN.{length, take, drop, get_or, length-append, length-drop}
+use lib.Seq.{get_or-drop}
 use lib.Dec.{eqb}
 use borrow.Author.Tests.{eq-eqb, ne_eqb}
-use Rattle.words.specs.Bytes.{part, splice, zeros}
+use Rattle.std.proofs.Math.Seq.{drop-append_seam}
+use Rattle.std.proofs.lemmas.List.{take_at}
+use Rattle.words.specs.Bytes.{splice, zeros}
 use Rattle.words.specs.Numbers.{number}
 use Rattle.words.proofs.Splice.{length_part, splice-whole, splice-next, splice-nil}
 use Rattle.words.proofs.Numbers.{number-drop}
 use Rattle.words.proofs.Tests.{by_cases}
 use Rattle.sizes.specs.Sizes.{record_len, slot_len, leaf_in}
-use Rattle.slots.specs.Slots.{Block, block_by, blocks_of, slot_bytes, slots_bytes, Fits, AllFit, Bytes, slots_with}
-use Rattle.slots.proofs.Blocks.{slot-block, block-fits, block_at, length-slot, length-slots, length-blocks}
+use Rattle.slots.specs.Slots.{Block, block_by, blocks_by, blocks_of, slot_bytes, slots_bytes, Fits, AllFit, Bytes, slots_with}
+use Rattle.slots.proofs.Blocks.{slot-block, block-fits, block-part, block_at, length-slot, length-slots, length-blocks}
 use Rattle.placing.specs.Ids.{Placeable}
 use Rattle.placing.specs.Walk.{pick}
 use Rattle.placing.specs.Order.{no_block, block_of, blocks_on}
@@ -63,38 +65,60 @@ pub fit_at : (bank ps : List ℕ) → Bytes bank → Inside bank ps → AllFit r
 fit_at bank [] b f = tt
 fit_at bank (p ∷ ps) b f = (fits_in bank p b (f 0 (omega arith)), fit_at bank ps b (λ i h. f (suc i) (omega arith)))
 
+-- slots one behind another: the first one, and the others
+module _ (xs slot rest : List ℕ) (cut : xs ≡ slot ++ rest) (long : length slot ≡ slot_len) where
+  slot-first : block_by record_len slot ≡ block_by record_len xs
+  slot-first = ap (block_by record_len) (sym (ap (take slot_len) cut ∙ take_at slot rest slot_len long)) ∙ block-part record_len xs 0 slot_len (omega arith)
+
+  slot-rest : rest ≡ drop slot_len xs
+  slot-rest = sym (ap (drop slot_len) cut ∙ ap (λ (i : ℕ). drop i (slot ++ rest)) (sym long) ∙ drop-append_seam slot rest)
+
+  pub slot-next : (n m : ℕ) → m + 1 ≡ n → blocks_of n xs ≡ block_by record_len slot ∷ blocks_of m rest
+  unfolding blocks_by
+  slot-next n m k =
+      let s : n ≡ suc m = omega arith in
+      ap (λ (i : ℕ). blocks_of i xs) s ∙ ap₂ (λ (b : Block) (bs : List Block). b ∷ bs) (sym slot-first) (ap (blocks_of m) (sym slot-rest))
+
+  pub slot-fits : Bytes xs → Fits record_len (block_by record_len slot)
+  slot-fits b = rw slot-first (block-fits record_len xs b (omega (arith, ap length cut, length-append slot rest)))
+
+  pub rest-bytes : Bytes xs → Bytes rest
+  rest-bytes b = rw slot-rest (bytes_drop slot_len xs b)
+
+  pub rest-long : (n m : ℕ) → m + 1 ≡ n → slot_len * n ≤ length xs → slot_len * m ≤ length rest
+  rest-long n m k h = omega (arith, ap length cut, length-append slot rest)
+
+-- as many of them as there are: a walk over n ends where none is left
+pub slots-over : (n : ℕ) (xs : List ℕ) → slot_len * n ≤ length xs → (0 < n → length xs < slot_len) → n ≡ 0
+slots-over zero xs h f = refl
+slots-over (suc n) xs h f = absurd (omega (arith, f (omega arith)))
+
+-- the first of several places in a bank, and the others
+pub inside-next : (bank qs ps : List ℕ) (p : ℕ) → qs ≡ p ∷ ps → Inside bank qs → (slot_len * p + slot_len ≤ length bank) × Inside bank ps
+inside-next bank qs ps p e f = let g : Inside bank (p ∷ ps) = rw e at f in (g 0 (omega arith), λ i h. g (suc i) (omega arith))
+
 -- ---- a slot that is copied: into an array of its own, and out of it
 
-pub slot-copied : (src : List ℕ) (from : ℕ) → Bytes src → from + slot_len ≤ length src
-    → splice (zeros slot_len) 0 (part src from (from + slot_len - from)) ≡ slot_bytes (block_by record_len (drop from src))
-slot-copied src from b h =
-    let k : from + slot_len - from ≡ slot_len = omega arith in
-    ap (λ (n : ℕ). splice (zeros slot_len) 0 (part src from n)) k
-    ∙ splice-whole (zeros slot_len) (part src from slot_len) (length_part src from slot_len h)
-    ∙ sym (slot-block record_len (drop from src) (bytes_drop from src b) (omega (arith, length-drop from src)))
+pub slot-copied : (src : List ℕ) → Bytes src → slot_len ≤ length src → splice (zeros slot_len) 0 (take slot_len src) ≡ slot_bytes (block_by record_len src)
+slot-copied src b h = splice-whole (zeros slot_len) (take slot_len src) (length_part src 0 slot_len h) ∙ sym (slot-block record_len src b h)
 
--- ---- slots of a height, laid one after another: what is left after i places
+-- ---- slots of a height, laid one after another: the next place is at it or not
 
-abbrev pub left_of : ℕ → List ℕ → List ℕ → List ℕ → ℕ → List Block
-left_of h hs bank ps i = pick h (drop i hs) (blocks_at bank (drop i ps))
-
-module _ (h : ℕ) (hs bank ps : List ℕ) (i : ℕ) (k : i < length hs) (m : i < length ps) where
-  pub left-hit : get_or hs i 0 ≡ h → left_of h hs bank ps i ≡ block_in bank (get_or ps i 0) ∷ left_of h hs bank ps (i + 1)
+module _ (h k p : ℕ) (hs bank ps : List ℕ) where
+  pub pick-hit : k ≡ h → pick h (k ∷ hs) (blocks_at bank (p ∷ ps)) ≡ block_in bank p ∷ pick h hs (blocks_at bank ps)
   unfolding pick
-  left-hit e = rw (drop-cons hs i 0 k, drop-cons ps i 0 m, eq-eqb (get_or hs i 0) h e, add-one i)
+  pick-hit e = rw (eq-eqb k h e)
 
-  pub left-miss : (get_or hs i 0 ≡ h → ⊥) → left_of h hs bank ps i ≡ left_of h hs bank ps (i + 1)
+  pub pick-miss : (k ≡ h → ⊥) → pick h (k ∷ hs) (blocks_at bank (p ∷ ps)) ≡ pick h hs (blocks_at bank ps)
   unfolding pick
-  left-miss e = rw (drop-cons hs i 0 k, drop-cons ps i 0 m, ne_eqb (get_or hs i 0) h e, add-one i)
+  pick-miss e = rw (ne_eqb k h e)
 
-pick-nil : (h : ℕ) (ks : List ℕ) → pick {A = Block} h ks [] ≡ []
+pub pick-end : (h : ℕ) (hs bank ps : List ℕ) → (ps ≡ []) ⊎ (hs ≡ []) → pick h hs (blocks_at bank ps) ≡ []
 unfolding pick
-pick-nil h [] = refl
-pick-nil h (k ∷ ks) = refl
-
-pub left_end : (h : ℕ) (hs bank ps : List ℕ) (i : ℕ) → length ps ≤ i → left_of h hs bank ps i ≡ []
-left_end h hs bank ps i e =
-    ap (λ (l : List ℕ). pick h (drop i hs) (blocks_at bank l)) (drop_of_length-le ps e) ∙ pick-nil h (drop i hs)
+pick-end h [] bank ps e = refl
+pick-end h (k ∷ hs) bank [] e = refl
+pick-end h (k ∷ hs) bank (p ∷ ps) (inl e) = cc
+pick-end h (k ∷ hs) bank (p ∷ ps) (inr e) = cc
 
 -- a slot is laid: what is left begins with its block
 pub laid-turn : (dst next whole : List ℕ) (k : ℕ) (b : Block) (left right : List Block) → left ≡ b ∷ right → Fits record_len b → k + slot_len ≤ length dst

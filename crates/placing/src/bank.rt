@@ -1,5 +1,5 @@
 // Slots of a bank, laid one behind another where a bucket or the stash has them.
-ghost use Rattle.std.specs.Prelude.{◌≡◌, ◌+◌, ◌*◌, ◌≤◌, ◌<◌, length, drop};
+ghost use Rattle.std.specs.Prelude.{◌≡◌, ◌+◌, ◌*◌, ◌≤◌, length};
 ghost use Rattle.words.specs.Bytes.{splice};
 ghost use Rattle.sizes.specs.Sizes.{record_len, slot_len, most_room};
 ghost use Rattle.slots.specs.Slots.{block_by, slot_bytes, slots_bytes, slots_with};
@@ -8,21 +8,14 @@ ghost use Rattle.placing.specs.Bank.{blocks_at, Inside};
 
 use sizes::Sizes;
 
-pub fn wide(x: u16) -> usize
-    ensures { (result ≡ x) × (result < 65536) }
-{
-    x as usize
-}
-
-// The slot of `src` at `from` into `dst` at `at`. It goes through an array of its own, which cannot overlap with either: so it is copied in a few
-// wide moves and not byte by byte.
-pub fn copy_slot(dst: &mut [u8], at: usize, src: &[u8], from: usize)
-    requires { (at + slot_len ≤ length dst.old) × (from + slot_len ≤ length src.now) }
-    ensures { dst.new ≡ splice dst.old at (slot_bytes (block_by record_len (drop from src.now))) }
+// The first slot of `src` into `dst` at `at`. It goes through an array of its own, which cannot overlap with either: so it is copied in a few wide
+// moves and not byte by byte.
+pub fn copy_slot(dst: &mut [u8], at: usize, src: &[u8])
+    requires { (at + slot_len ≤ length dst.old) × (slot_len ≤ length src.now) }
+    ensures { dst.new ≡ splice dst.old at (slot_bytes (block_by record_len src.now)) }
 {
     let mut slot = [0u8; Sizes::SLOT];
-    let end = from + Sizes::SLOT;
-    words::copy(&mut slot, 0, &src[from..end]);
+    words::copy(&mut slot, 0, &src[..Sizes::SLOT]);
     words::copy(dst, at, &slot);
 }
 
@@ -34,15 +27,12 @@ fn lay(dst: &mut [u8], a: usize, h: u8, at: &[u8], places: &[u16], bank: &[u8]) 
     ensures dst_after { dst.new ≡ splice dst.old a (slots_bytes (pick h at.now (blocks_at bank.now places.now))) }
 {
     let mut k = a;
-    let mut i = 0;
-    while i < places.len() {
-        if at[i] != h {
-            i += 1;
-            continue;
+    for (place, height) in places.iter().zip(at) {
+        if *height == h {
+            let from = Sizes::SLOT * usize::from(*place);
+            copy_slot(dst, k, &bank[from..]);
+            k += Sizes::SLOT;
         }
-        copy_slot(dst, k, bank, Sizes::SLOT * wide(places[i]));
-        k += Sizes::SLOT;
-        i += 1;
     }
     k
 }

@@ -5,7 +5,6 @@ ghost use Rattle.sizes.specs.Sizes.{InRange, most_height};
 ghost use Rattle.placing.specs.Walk as spec;
 ghost use Rattle.placing.specs.Bank.{most_blocks, blocks_at, Inside};
 
-use crate::bank::wide;
 use sizes::Sizes;
 
 // A height for each level, and one for what remains.
@@ -20,14 +19,12 @@ fn seek(used: &[usize; HEIGHTS], x: usize, s: Sizes, leaf: usize) -> usize
     let n = s.height + 1;
     let mut a = x;
     let mut b = leaf;
-    let mut h = 0;
-    while h < n {
+    for h in 0..n {
         if (a == b) & (used[h] < s.slots) {
             return h;
         }
         a = a / 2;
         b = b / 2;
-        h += 1;
     }
     n
 }
@@ -40,13 +37,11 @@ pub fn assign(bank: &[u8], places: &[u16], s: Sizes, leaf: usize, at: &mut [u8])
     ensures value { result ≡ get_or (spec.used_in s leaf (zeros spec.most_heights) (blocks_at bank.now places.now)) (s.height + 1) 0 }
 {
     let mut used = [0usize; HEIGHTS];
-    let mut i = 0;
-    while i < places.len() {
-        let x = wide(words::get16(bank, Sizes::SLOT * wide(places[i]) + Sizes::LEAF_IN));
-        let h = seek(&used, x, s, leaf);
-        used[h] = used[h] + 1;
+    for (i, place) in places.iter().enumerate() {
+        let x = words::get16(bank, Sizes::SLOT * usize::from(*place) + Sizes::LEAF_IN);
+        let h = seek(&used, usize::from(x), s, leaf);
+        used[h] += 1;
         at[i] = h as u8;
-        i += 1;
     }
     let above = s.height + 1;
     used[above]

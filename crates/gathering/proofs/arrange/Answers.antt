@@ -17,18 +17,18 @@ pub take_path-b-requires : goal.take_path-b-requires
 take_path-b-requires c =
     let r = c.args.request in
     let p = c.put_request-a in
-    let few = few-if r.there r.id r.leaf c.args.«record».now in record { in_range = (c.requires.0.range, (c.requires.0.reach, c.requires.0.path_size)); n_in_bounds = omega (arith, p.ensures.0, p.auto.bank, c.requires.1.bank_size, c.requires.0.reach, c.requires.0.range.height_high) }
+    let few = few-if r.id r.leaf c.args.«record».now in record { in_range = (c.requires.0.range, (c.requires.0.reach, c.requires.0.path_size)); n_in_bounds = omega (arith, p.ensures.0, p.auto.bank, c.requires.1.bank_size, c.requires.0.reach, c.requires.0.range.height_high) }
 
 pub take_others-m-requires : goal.take_others-m-requires
 take_others-m-requires c =
     let after-path : c.take_path-b.result ≤ 1 + most_slots * (most_height + 1) = let r = c.args.request in
-    omega (arith, c.put_request-a.ensures.0, few-if r.there r.id r.leaf c.args.«record».now, c.take_path-b.ensures.value.1, c.requires.0.reach, c.requires.0.range.height_high) in
+    omega (arith, c.put_request-a.ensures.0, few-if r.id r.leaf c.args.«record».now, c.take_path-b.ensures.value.1, c.requires.0.reach, c.requires.0.range.height_high) in
     (omega (arith, c.requires.0.stash_size), omega (arith, after-path, c.requires.0.room_at_most, c.requires.1.bank_size, c.put_request-a.auto.bank, c.take_path-b.auto.bank))
 
 pub plan-requires : goal.plan-requires
 plan-requires c =
     let after-path : c.take_path-b.result ≤ 1 + most_slots * (most_height + 1) = let r = c.args.request in
-    omega (arith, c.put_request-a.ensures.0, few-if r.there r.id r.leaf c.args.«record».now, c.take_path-b.ensures.value.1, c.requires.0.reach, c.requires.0.range.height_high) in
+    omega (arith, c.put_request-a.ensures.0, few-if r.id r.leaf c.args.«record».now, c.take_path-b.ensures.value.1, c.requires.0.reach, c.requires.0.range.height_high) in
     let blocks : List Block = blocks_of c.take_others-m.result c.take_others-m.new.bank in
     let after-stash : c.take_others-m.result ≤ most_blocks = omega (arith, after-path, c.take_others-m.ensures.value.1, c.requires.0.room_at_most) in
     let due : List Block = to_place c.args.request c.args.«record».now (found c.args.s c.args.opened.now c.args.n c.args.stash.now c.args.count) in
@@ -48,7 +48,7 @@ plan-requires c =
 pub returns : goal.returns
 returns c =
     let after-path : c.take_path-b.result ≤ 1 + most_slots * (most_height + 1) = let r = c.args.request in
-    omega (arith, c.put_request-a.ensures.0, few-if r.there r.id r.leaf c.args.«record».now, c.take_path-b.ensures.value.1, c.requires.0.reach, c.requires.0.range.height_high) in
+    omega (arith, c.put_request-a.ensures.0, few-if r.id r.leaf c.args.«record».now, c.take_path-b.ensures.value.1, c.requires.0.reach, c.requires.0.range.height_high) in
     let blocks : List Block = blocks_of c.take_others-m.result c.take_others-m.new.bank in
     let after-stash : c.take_others-m.result ≤ most_blocks = omega (arith, after-path, c.take_others-m.ensures.value.1, c.requires.0.room_at_most) in
     let due : List Block = to_place c.args.request c.args.«record».now (found c.args.s c.args.opened.now c.args.n c.args.stash.now c.args.count) in

@@ -5,15 +5,15 @@ use Rattle.words.proofs.Splice.{splice-nil}
 use Rattle.gathering.proofs.Taken.{request-laid}
 use Rattle.gathering.proofs.put_request.Goals as goal
 
-pub returns-then-there : goal.returns-then-there
-returns-then-there c =
-    let a = c.args in
-    let i = c.put16 in
-    let l = c.put16-then-there in
-    let r = c.copy in
-    rw c.if-there.true
-    (refl, request-laid a.bank.now i.new.s l.new.s r.new.dst a.«record».now a.request.id a.request.leaf c.requires.0 c.requires.1 i.ensures l.ensures r.ensures)
+pub returns-in_default : goal.returns-in_default
+unfolding slots_bytes
+returns-in_default c = rw c.in_default.is (refl, sym (splice-nil c.args.bank.now 0))
 
 pub returns : goal.returns
-unfolding slots_bytes
-returns c = rw c.if-there.false (refl, sym (splice-nil c.args.bank.now 0))
+returns c =
+    let a = c.args in
+    rw c.in-Some.is (
+      refl,
+      request-laid a.bank.now c.put16.new.s c.put16-2.new.s c.copy.new.dst a.«record».now a.request.id c.in-Some.leaf c.requires.0 c.requires.1
+          c.put16.ensures c.put16-2.ensures c.copy.ensures,
+    )

@@ -1,18 +1,16 @@
--- `gathering::take_others` meets its contract: before each turn, taking what is left from slot k on gives the whole. Assumes nothing.
-use Prim.Native.Nat.{◌≤◌, ◌+◌, ◌*◌, ◌-◌}
+-- `gathering::take_others` meets its contract: before each turn, taking from slot k on what is left gives the whole. Assumes nothing.
+use Prim.Native.Nat.{◌≤◌, ◌+◌, ◌*◌}
 use mathlib.Core.Path.{◌≡◌}
-use lib.ListN.{length, drop}
+use lib.ListN.{length}
 use Rattle.words.specs.Bytes.{splice}
 use Rattle.sizes.specs.Sizes.{slot_len}
-use Rattle.slots.specs.Slots.{blocks_of, slots_bytes}
+use Rattle.slots.specs.Slots.{blocks_of, slots_bytes, Bytes}
 use Rattle.gathering.specs.Gathering.{others}
-use Rattle.gathering.proofs.Taken.{left_from}
 use Rattle.gathering.proofs.take_others.Given as goal
 
-abbrev pub invariant-loop-j : goal.invariant-loop-j
-invariant-loop-j l = ((l.j ≤ l.z) × (l.k ≤ l.m + l.j)) × (length l.bank ≡ length l.initial.bank)
-    × (l.k + length (left_from l.id l.z l.src l.a l.j) ≡ l.m + length (others l.id (blocks_of l.z (drop l.a l.src))))
-    × (splice l.bank (slot_len * l.k) (slots_bytes (left_from l.id l.z l.src l.a l.j)) ≡ splice l.initial.bank (slot_len * l.m) (slots_bytes (others l.id (blocks_of l.z (drop l.a l.src)))))
-
-abbrev pub decreases-loop-j : goal.decreases-loop-j
-decreases-loop-j l = l.z - l.j
+abbrev pub invariant-loop-slot : goal.invariant-loop-slot
+invariant-loop-slot l =
+    ((l.slot-iterator.iter.size ≡ slot_len) × Bytes l.slot-iterator.iter.rest.now) × (slot_len * l.slot-iterator.n ≤ length l.slot-iterator.iter.rest.now)
+    × (l.k + l.slot-iterator.n ≤ l.m + l.z)
+    × (l.k + length (others l.id (blocks_of l.slot-iterator.n l.slot-iterator.iter.rest.now)) ≡ l.m + length (others l.id (blocks_of l.z l.slots)))
+    × (splice l.bank (slot_len * l.k) (slots_bytes (others l.id (blocks_of l.slot-iterator.n l.slot-iterator.iter.rest.now))) ≡ splice l.initial.bank (slot_len * l.m) (slots_bytes (others l.id (blocks_of l.z l.slots))))

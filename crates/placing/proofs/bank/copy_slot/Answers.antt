@@ -9,6 +9,5 @@ use Rattle.placing.proofs.bank.copy_slot.Goals as goal
 pub returns : goal.returns
 returns c =
     let a = c.args in
-    let bytes : Bytes a.src.now = λ i. omega (arith, c.shared_slice_known-1.given i) in
-    c.copy-2.ensures
-    ∙ ap (splice a.dst.now a.at) (c.copy.ensures ∙ slot-copied a.src.now a.from bytes c.requires.1)
+    let bytes : Bytes a.src.now = λ i. omega (arith, c.type_inv.src i) in
+    c.copy-2.ensures ∙ ap (splice a.dst.now a.at) (c.copy.ensures ∙ slot-copied a.src.now bytes c.requires.1)
