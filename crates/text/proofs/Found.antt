@@ -30,6 +30,20 @@ same-pointwise (w ∷ ws) (x ∷ xs) = rw (nat_eq_equiv.symm w x, same-pointwise
 pub starts-begins : (xs word : List ℕ) → starts_with eqb xs word ≡ begins xs word
 starts-begins xs word = same-pointwise word (take (length word) xs)
 
+-- and its strip_prefix, and ==
+pub same-lists : (xs ys : List ℕ) → pointwise eqb xs ys ≡ same xs ys
+unfolding same
+same-lists [] [] = refl
+same-lists [] (y ∷ ys) = refl
+same-lists (x ∷ xs) [] = refl
+same-lists (x ∷ xs) (y ∷ ys) = rw (same-lists xs ys)
+
+pub strips-begins : (xs word : List ℕ) → pointwise eqb (take (length word) xs) word ≡ begins xs word
+strips-begins xs word = same-lists (take (length word) xs) word
+
+pub same-as : (xs word ys : List ℕ) → ys ≡ word → same xs word ≡ pointwise eqb xs ys
+same-as xs word ys e = rw e (sym (same-lists xs word))
+
 pub begins-length : (xs word : List ℕ) → begins xs word ≡ true → length word ≤ length xs
 begins-length xs word e = omega (arith, length-take (length word) xs, ap length (same-eq (take (length word) xs) word e))
 
