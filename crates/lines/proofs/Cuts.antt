@@ -9,9 +9,14 @@ use lib.ListN.{length, drop, get_or, drop_of_length-le}
 use lib.Seq.{drop-cons}
 use Rattle.words.specs.Bytes.{part}
 use Rattle.lines.specs.declared.Directive.{Directive}
-use Rattle.lines.specs.declared.Directive.TheVariants as directive
+use Rattle.std.specs.Prelude.{Option, Some, None}
+use Rattle.std.specs.Option.{is_some}
 use Rattle.lines.specs.Line.{directive_at, is_directive, until_directive, cut, cut_of}
 use Rattle.lines.proofs.Tails.{tail-is}
+
+pub some-is : (d : Option Directive) → is_directive d ≡ is_some d
+some-is None = refl
+some-is (Some d) = refl
 
 module _ (xs : List ℕ) (i : ℕ) (h : i < length xs) where
   until-step : is_directive (directive_at (drop i xs)) ≡ false → until_directive (drop i xs) ≡ suc (until_directive (drop (i + 1) xs))
@@ -45,7 +50,7 @@ here : (xs : List ℕ) (i : ℕ) → until_directive xs ≡ i → cut i (directi
 here xs i e = ap (λ (n : ℕ). cut n (directive_at (drop n xs))) (sym e)
 
 -- the directive at place i is d
-module _ (xs : List ℕ) (i : ℕ) (p : Passed xs i) (h : i < length xs) (d : Directive) (e : d ≡ directive_at (part xs i (length xs - i))) where
+module _ (xs : List ℕ) (i : ℕ) (p : Passed xs i) (h : i < length xs) (d : Option Directive) (e : d ≡ directive_at (part xs i (length xs - i))) where
   at_place : d ≡ directive_at (drop i xs)
   at_place = e ∙ ap directive_at (tail-is xs i (omega arith))
 
@@ -61,7 +66,7 @@ module _ (xs : List ℕ) (i : ℕ) (p : Passed xs i) (h : i < length xs) (d : Di
       let u : until_directive xs ≡ i = p.so_far ∙ ap (λ (n : ℕ). i + n) (until_stop xs i h (ap is_directive (sym at_place) ∙ f)) ∙ omega arith in
       ap (cut i) at_place ∙ here xs i u
 
-pub end : (xs : List ℕ) (i : ℕ) → Passed xs i → length xs ≤ i → cut i directive.None ≡ cut_of xs
+pub end : (xs : List ℕ) (i : ℕ) → Passed xs i → length xs ≤ i → cut i None ≡ cut_of xs
 end xs i p h =
     let d : drop i xs ≡ [] = drop_of_length-le xs {i = i} h in
     let u : until_directive xs ≡ i = p.so_far ∙ ap (λ (l : List ℕ). i + until_directive l) d ∙ ap (λ (n : ℕ). i + n) until_end ∙ omega arith in

@@ -1,13 +1,13 @@
 -- A value that is capped after each digit is the cap of the whole value, since more digits never make it smaller. Assumes nothing.
-use Prim.Native.Nat.{ℕ, ◌+◌, ◌*◌, ◌-◌, ◌≤◌, ◌<◌}
+use Prim.Native.Nat.{ℕ, ◌+◌, ◌*◌, ◌-◌, ◌≤◌, ◌<◌, min}
 use mathlib.Core.Path.{◌≡◌, refl, sym, ap, ◌∙◌}
 use mathlib.Core.Bool.{true}
 use mathlib.Core.List.{List, [], ◌∷◌}
 use native.Mathlib.Omega.{arith}
-use borrow.Author.Tests.{ltb-true, ltb-false, le-ltb, ne_eqb, le-leb, lt-leb}
+use borrow.Author.Tests.{ltb-true, ltb-false, lt-ltb, le-ltb, ne_eqb, le-leb, lt-leb}
 use lib.ListN.{length, drop, get_or}
 use lib.Dec.{leb, ltb, eqb}
-use Rattle.words.proofs.Tests.{by_cases}
+use Rattle.words.proofs.Tests.{below_or, by_cases}
 use Rattle.text.specs.Fronts.{is_digit, digits, value, zero_digit}
 use Rattle.text.proofs.Fronts.{digits_step}
 use Rattle.lines.specs.Line.{most_count, capped, HidesNothing, count, count_of}
@@ -21,6 +21,12 @@ value_grows v (d ∷ ds) = omega (arith, value_grows (v * 10 + (d - zero_digit))
 
 capped-high : (v : ℕ) → most_count ≤ v → capped v ≡ most_count
 capped-high v h = rw (le-ltb v most_count h)
+
+pub capped-min : (v : ℕ) → min v most_count ≡ capped v
+capped-min v =
+    below_or v most_count
+    (λ h. rw (lt-ltb v most_count h) (omega arith))
+    (λ h. rw (le-ltb v most_count h) (omega arith))
 
 pub capped-most : (v : ℕ) → capped v ≤ most_count
 capped-most v =

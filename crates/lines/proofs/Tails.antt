@@ -1,13 +1,18 @@
 -- What calls find in a text from a place on, as the definitions say it. Assumes nothing.
-use Prim.Native.Nat.{ℕ, ◌+◌, ◌-◌, ◌≤◌}
+use Prim.Native.Nat.{ℕ, ◌+◌, ◌-◌, ◌≤◌, min}
 use mathlib.Core.Path.{◌≡◌, sym, ap, ◌∙◌}
-use mathlib.Core.Bool.{Bool, true}
+use mathlib.Core.Bool.{Bool, and-true}
 use mathlib.Core.List.{List, [], ◌∷◌}
 use native.Mathlib.Omega.{arith}
-use borrow.Author.Tests.{eqb-true}
-use lib.ListN.{length, drop, get_or}
+use borrow.Author.Tests.{ne_eqb, lt-ltb, le-ltb}
+use lib.ListN.{length, take, drop, get_or}
 use lib.Seq.{drop-drop}
 use lib.Dec.{eqb}
+use lib.Pointwise.{pointwise}
+use Rattle.std.specs.List.{starts_with}
+use Rattle.std.proofs.lemmas.Cmp.{nat_eq_equiv}
+use Rattle.words.proofs.Tests.{below_or}
+use Rattle.std.specs.Prelude.{Option}
 use Rattle.words.specs.Bytes.{part}
 use Rattle.words.proofs.Splice.{length_part, part-tail}
 use Rattle.verdicts.specs.declared.Verdict.{Verdict}
@@ -24,14 +29,18 @@ tail-is xs a h = part-tail xs a (length xs - a) (omega arith)
 pub tail-length : (xs : List ℕ) (a : ℕ) → a ≤ length xs → length (tail xs a) ≡ length xs - a
 tail-length xs a h = length_part xs a (length xs - a) (omega arith)
 
--- a first byte that is not zero is there
-pub first-there : (xs : List ℕ) (b : ℕ) → 1 ≤ b → eqb (get_or xs 0 0) b ≡ true → 1 ≤ length xs
-first-there [] b h e = absurd (omega (arith, eqb-true 0 b e))
-first-there (x ∷ xs) b h e = omega arith
+-- whether the first byte is b, which is not zero, as the library says it of the one before b's own text and of the one behind it
+pub first-is : (xs : List ℕ) (b : ℕ) → 1 ≤ b → pointwise eqb (take 1 xs) (b ∷ []) ≡ eqb (get_or xs 0 0) b
+first-is [] b h = sym (ne_eqb 0 b (λ e. omega arith))
+first-is (x ∷ xs) b h = and-true (eqb x b)
+
+pub first-as : (xs : List ℕ) (b : ℕ) → 1 ≤ b → starts_with eqb xs (b ∷ []) ≡ eqb (get_or xs 0 0) b
+first-as [] b h = sym (ne_eqb 0 b (λ e. omega arith))
+first-as (x ∷ xs) b h = and-true (eqb b x) ∙ nat_eq_equiv.symm b x
 
 -- ---- the word of a directive, after the # and its spaces
 
-pub word_at : (xs : List ℕ) (n : ℕ) (d : Directive) → 1 ≤ length xs → (n ≡ leading (tail xs 1)) × (n ≤ length (tail xs 1)) → d ≡ directive_word (tail xs (1 + n))
+pub word_at : (xs : List ℕ) (n : ℕ) (d : Option Directive) → 1 ≤ length xs → (n ≡ leading (tail xs 1)) × (n ≤ length (tail xs 1)) → d ≡ directive_word (tail xs (1 + n))
     → d ≡ directive_word (after_spaces (drop 1 xs))
 word_at xs n d h s w =
     let p : n ≡ leading (drop 1 xs) = s.0 ∙ ap leading (tail-is xs 1 h) in
@@ -39,6 +48,13 @@ word_at xs n d h s w =
     ∙ ap (λ (k : ℕ). directive_word (drop k (drop 1 xs))) p
 
 -- ---- a description
+
+-- the place behind the space, as the smaller of two
+pub past-min : (at len past : ℕ) → past ≡ min (at + 1) len → at ≤ len → (past ≡ past_space at len) × (past ≤ len)
+past-min at len past e h =
+    below_or at len
+    (λ k. (rw (lt-ltb at len k) (omega arith), omega arith))
+    (λ k. (rw (le-ltb at len k) (omega arith), omega arith))
 
 pub front-is : (xs : List ℕ) (n m : ℕ) → (n ≡ leading xs) × (n ≤ length xs) → (m ≡ hyphen_len (tail xs n)) × (m ≤ length (tail xs n))
     → (n + m ≡ front_len xs) × (n + m ≤ length xs)

@@ -1,5 +1,5 @@
 -- What a line of TAP is: version, plan, test, comment, or malformed. Definitions go by the bytes of the line, without its line feed. Assumes nothing.
-use Rattle.std.specs.Prelude.{ℕ, zero, suc, ◌+◌, ◌≤◌, ◌≡◌, Bool, true, false, cond, not, ◌&&◌, List, [], ◌∷◌, length, take, drop, get_or, leb, ltb, eqb}
+use Rattle.std.specs.Prelude.{ℕ, zero, suc, ◌+◌, ◌≤◌, ◌≡◌, Bool, true, false, cond, not, ◌&&◌, List, [], ◌∷◌, length, take, drop, get_or, leb, ltb, eqb, Option, Some, None}
 use Rattle.words.specs.Bytes.{part, same}
 use Rattle.text.specs.Text.{space}
 use Rattle.text.specs.Fronts.{begins, digits, value}
@@ -7,7 +7,7 @@ use Rattle.verdicts.specs.declared.Verdict.{Verdict}
 use Rattle.verdicts.specs.declared.Verdict.TheVariants as verdict
 use Rattle.verdicts.specs.Verdict.{can_be_read}
 use Rattle.lines.specs.declared.Directive.{Directive}
-use Rattle.lines.specs.declared.Directive.TheVariants as directive
+use Rattle.lines.specs.declared.Directive.TheVariants.{Skip, Todo}
 use Rattle.lines.specs.declared.Count.{Count}
 use Rattle.lines.specs.declared.Cut.{Cut}
 use Rattle.lines.specs.declared.Test.{Test}
@@ -59,35 +59,34 @@ count_of xs = count (capped (value 0 (digits xs))) (length (digits xs))
 abbrev pub is_word : List ℕ → List ℕ → Bool
 is_word word xs = same (capitals (take (length word) xs)) word && not (is_word_byte (get_or xs (length word) 0))
 
-abbrev pub directive_word : List ℕ → Directive
-directive_word xs = cond (is_word skip_word xs) directive.Skip (cond (is_word todo_word xs) directive.Todo directive.None)
+abbrev pub directive_word : List ℕ → Option Directive
+directive_word xs = cond (is_word skip_word xs) (Some Skip) (cond (is_word todo_word xs) (Some Todo) None)
 
 -- the one that begins at the front of xs
-abbrev pub directive_at : List ℕ → Directive
-directive_at xs = cond (eqb (get_or xs 0 0) hash) (directive_word (after_spaces (drop 1 xs))) directive.None
+abbrev pub directive_at : List ℕ → Option Directive
+directive_at xs = cond (eqb (get_or xs 0 0) hash) (directive_word (after_spaces (drop 1 xs))) None
 
-abbrev pub is_directive : Directive → Bool
-is_directive directive.None = false
-is_directive directive.Skip = true
-is_directive directive.Todo = true
+abbrev pub is_directive : Option Directive → Bool
+is_directive None = false
+is_directive (Some d) = true
 
 -- how many bytes stand before the first one; all of them where there is none
 unfoldable pub until_directive : List ℕ → ℕ
 until_directive [] = 0
 until_directive (x ∷ xs) = cond (is_directive (directive_at (x ∷ xs))) 0 (suc (until_directive xs))
 
-abbrev pub cut : ℕ → Directive → Cut
+abbrev pub cut : ℕ → Option Directive → Cut
 cut n d = record { at = n; directive = d }
 
 abbrev pub cut_of : List ℕ → Cut
 cut_of xs = cut (until_directive xs) (directive_at (drop (until_directive xs) xs))
 
 -- with SKIP either kind is skipped, with TODO an error
-abbrev pub verdict_by : Bool → Directive → Verdict
-verdict_by ok directive.Skip = verdict.Skipped
-verdict_by ok directive.Todo = verdict.Error
-verdict_by true directive.None = verdict.Pass
-verdict_by false directive.None = verdict.Fail
+abbrev pub verdict_by : Bool → Option Directive → Verdict
+verdict_by ok (Some Skip) = verdict.Skipped
+verdict_by ok (Some Todo) = verdict.Error
+verdict_by true None = verdict.Pass
+verdict_by false None = verdict.Fail
 
 -- ---- a description
 

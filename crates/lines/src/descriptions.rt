@@ -1,7 +1,7 @@
 // A test line's description: where it stands, and the verdict that its directive makes. Assumes nothing.
 ghost use Rattle.std.specs.Prelude.{◌≡◌, ◌+◌, ◌≤◌, length};
 ghost use Rattle.lines.specs.Line as spec;
-ghost use Rattle.lines.specs.Line.{verdict_by, hyphen_len, front_len, ends_number, past_space, description_at, test_from};
+ghost use Rattle.lines.specs.Line.{verdict_by, hyphen_len, front_len, ends_number, description_at, test_from};
 
 use crate::{Directive, Test, directives, fronts};
 use text::bytes;
@@ -12,24 +12,20 @@ fn trimmed(s: &[u8], n: usize) -> usize
     requires { n ≤ length s.now }
     ensures { (result ≡ spec.trimmed n s.now) × (result ≤ n) }
 {
-    let mut i = n;
-    while 0 < i {
-        if s[i - 1] != bytes::SPACE {
-            return i;
-        }
-        i -= 1;
+    match s[..n].iter().rposition(|b| *b != bytes::SPACE) {
+        Some(last) => last + 1,
+        None => 0,
     }
-    0
 }
 
 // One hyphen with the spaces after it.
 fn hyphen_len(s: &[u8]) -> usize
     ensures { (result ≡ hyphen_len s.now) × (result ≤ length s.now) }
 {
-    if !fronts::begins_with(s, crate::HYPHEN) {
-        return 0;
+    match s.strip_prefix(b"-") {
+        Some(rest) => 1 + fronts::spaces(rest),
+        None => 0,
     }
-    1 + fronts::spaces(&s[1..])
 }
 
 // What is no part of the description: spaces, then one hyphen with its spaces.
@@ -44,34 +40,16 @@ fn front_len(s: &[u8]) -> usize
 pub fn ends_number(at: usize, line: &[u8]) -> bool
     ensures { result ≡ ends_number at line.now }
 {
-    if line.len() <= at {
-        return true;
-    }
-    line[at] == bytes::SPACE
+    line.len() <= at || line[at] == bytes::SPACE
 }
 
-fn past_space(at: usize, len: usize) -> usize
-    requires { at ≤ len }
-    ensures { (result ≡ past_space at len) × (result ≤ len) }
-{
-    if at < len {
-        return at + 1;
-    }
-    at
-}
-
-fn verdict_by(ok: bool, directive: Directive) -> Verdict
+fn verdict_by(ok: bool, directive: Option<Directive>) -> Verdict
     ensures { result ≡ verdict_by ok directive }
 {
     match directive {
-        Directive::Skip => Verdict::Skipped,
-        Directive::Todo => Verdict::Error,
-        Directive::None => {
-            if ok {
-                return Verdict::Pass;
-            }
-            Verdict::Fail
-        }
+        Some(Directive::Skip) => Verdict::Skipped,
+        Some(Directive::Todo) => Verdict::Error,
+        None => { if ok { Verdict::Pass } else { Verdict::Fail } }
     }
 }
 
@@ -80,7 +58,7 @@ pub fn test_from(ok: bool, number: u64, at: usize, line: &[u8]) -> Test
     requires { at ≤ length line.now }
     ensures { (result ≡ test_from ok number line.now (description_at at line.now)) × (result.from + result.length ≤ length line.now) }
 {
-    let past = past_space(at, line.len());
+    let past = (at + 1).min(line.len());
     let from = past + front_len(&line[past..]);
     let cut = directives::first_directive(&line[from..]);
     let directive = cut.directive;

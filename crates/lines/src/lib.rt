@@ -8,12 +8,7 @@ mod fronts;
 ghost use Rattle.std.specs.Prelude.{◌≡◌, ◌≤◌, length};
 ghost use Rattle.lines.specs.Line.{test_after, plan_after, line_of, Inside};
 
-use text::bytes;
 use verdicts::Verdict;
-
-pub const HASH: u8 = 35;
-
-pub const HYPHEN: u8 = 45;
 
 // The first number that is larger than any range is long; it stands for all that are larger.
 pub const MOST_COUNT: u64 = 65536;
@@ -27,7 +22,6 @@ pub struct Count {
 
 #[derive(Clone, Copy, Drop)]
 pub enum Directive {
-    None,
     Skip,
     Todo,
 }
@@ -36,7 +30,7 @@ pub enum Directive {
 #[derive(Clone, Copy, Drop)]
 pub struct Cut {
     pub at: usize,
-    pub directive: Directive,
+    pub directive: Option<Directive>,
 }
 
 // A test line. Its description has `length` bytes and stands in the line from `from` on.
@@ -98,24 +92,22 @@ fn plan_after(rest: &[u8]) -> Line
 pub fn read(chapter: u8, line: &[u8]) -> Line
     ensures { (result ≡ line_of chapter line.now) × Inside (length line.now) result }
 {
-    if words::same(line, b"TAP version 13") {
+    if line == b"TAP version 13".as_slice() {
         return Line::Version;
     }
-    if fronts::begins_with(line, HASH) {
+    if line.starts_with(b"#") {
         return Line::Comment;
     }
     let ok: &[u8] = b"ok ";
-    if bytes::begins(line, ok) {
+    if line.starts_with(ok) {
         return test_after(chapter, true, ok.len(), line);
     }
     let not_ok: &[u8] = b"not ok ";
-    if bytes::begins(line, not_ok) {
+    if line.starts_with(not_ok) {
         return test_after(chapter, false, not_ok.len(), line);
     }
-    let plan: &[u8] = b"1..";
-    if bytes::begins(line, plan) {
-        let n = plan.len();
-        return plan_after(&line[n..]);
+    match line.strip_prefix(b"1..") {
+        Some(rest) => plan_after(rest),
+        None => Line::Malformed,
     }
-    Line::Malformed
 }

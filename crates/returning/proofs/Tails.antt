@@ -14,7 +14,8 @@ use Rattle.text.specs.Fronts.{before}
 use Rattle.verdicts.specs.declared.Verdict.{Verdict}
 use Rattle.verdicts.specs.declared.Verdict.TheVariants.{Pass, Fail, Skipped, Error}
 use Rattle.lines.specs.declared.Directive.{Directive}
-use Rattle.lines.specs.declared.Directive.TheVariants as directive
+use Rattle.std.specs.Prelude.{Option, Some, None}
+use Rattle.lines.specs.declared.Directive.TheVariants.{Skip, Todo}
 use Rattle.lines.specs.Words.{skip_text, todo_text, capitals}
 use Rattle.lines.specs.Line.{leading, after_spaces, trimmed, directive_at, is_directive, until_directive, verdict_by}
 use Rattle.printing.specs.Printed.{directive_text}
@@ -107,15 +108,15 @@ read-free v name h =
 
 -- ---- only a pass reads as one
 
-not-pass : (d : Directive) → verdict_by false d ≡ Pass → ⊥
-not-pass directive.None e = let z : ◌≡◌ {A = ℕ} 0 1 = cc in omega arith
-not-pass directive.Skip e = let z : ◌≡◌ {A = ℕ} 0 1 = cc in omega arith
-not-pass directive.Todo e = let z : ◌≡◌ {A = ℕ} 0 1 = cc in omega arith
+not-pass : (d : Option Directive) → verdict_by false d ≡ Pass → ⊥
+not-pass None e = let z : ◌≡◌ {A = ℕ} 0 1 = cc in omega arith
+not-pass (Some Skip) e = let z : ◌≡◌ {A = ℕ} 0 1 = cc in omega arith
+not-pass (Some Todo) e = let z : ◌≡◌ {A = ℕ} 0 1 = cc in omega arith
 
-not-with : (d : Directive) → is_directive d ≡ true → verdict_by true d ≡ Pass → ⊥
-not-with directive.None h e = let z : ◌≡◌ {A = ℕ} 0 1 = cc in omega arith
-not-with directive.Skip h e = let z : ◌≡◌ {A = ℕ} 0 1 = cc in omega arith
-not-with directive.Todo h e = let z : ◌≡◌ {A = ℕ} 0 1 = cc in omega arith
+not-with : (d : Option Directive) → is_directive d ≡ true → verdict_by true d ≡ Pass → ⊥
+not-with None h e = let z : ◌≡◌ {A = ℕ} 0 1 = cc in omega arith
+not-with (Some Skip) h e = let z : ◌≡◌ {A = ℕ} 0 1 = cc in omega arith
+not-with (Some Todo) h e = let z : ◌≡◌ {A = ℕ} 0 1 = cc in omega arith
 
 pub read-pass : (v : Verdict) (name : List ℕ) → verdict_read (is_ok v) (tail_of v name) ≡ Pass → v ≡ Pass
 unfolding leading same capitals

@@ -10,8 +10,7 @@ use lib.ListN.{take}
 use Rattle.formats.specs.Format.{format_checked, format_of}
 use Rattle.formats.proofs.Passed.{format-passed}
 use Rattle.setup.specs.declared.Store.{Store}
-use Rattle.setup.specs.declared.First.{First}
-use Rattle.setup.specs.declared.First.TheVariants as first
+use Rattle.std.specs.Prelude.{Option, Some, None}
 use Rattle.setup.specs.Setup.{store_of, start_good, start_leaves}
 use Rattle.setup.proofs.Bounds.{store-fits}
 use Rattle.script.specs.declared.Line.{Line}
@@ -25,10 +24,10 @@ use Rattle.runs.specs.Run.{first_step, format_by, second_step, request_step, ste
 
 -- ---- what is not named stays
 
-pub first_frame : (x : First) (sh : Shelf) {out out' : List ℕ} {r : Run} {w : ℕ} → (r ≡ (first_step x nothing).run) × Wrote out 0 (first_step x nothing).text out' w × (w ≤ most_row)
+pub first_frame : (x : Option Store) (sh : Shelf) {out out' : List ℕ} {r : Run} {w : ℕ} → (r ≡ (first_step x nothing).run) × Wrote out 0 (first_step x nothing).text out' w × (w ≤ most_row)
     → Became (first_step x sh) out out' r w sh
-first_frame (first.Is x) sh p = record { run_is = p.0; shelf_is = refl; wrote = p.1; most = p.2 }
-first_frame first.Bad sh p = record { run_is = p.0; shelf_is = refl; wrote = p.1; most = p.2 }
+first_frame (Some x) sh p = record { run_is = p.0; shelf_is = refl; wrote = p.1; most = p.2 }
+first_frame None sh p = record { run_is = p.0; shelf_is = refl; wrote = p.1; most = p.2 }
 
 module _ (t p b : List ℕ) {out out' : List ℕ} {r : Run} {w : ℕ} {d' l' : List ℕ} where
   format-frame : (o : Result Unit Refusal) (x : Store) (d ls : List ℕ) → Became (format_by o x (shelf d [] [] [] ls)) out out' r w (shelf d' [] [] [] l')
@@ -60,9 +59,9 @@ request-frame line.Bad x k xs d t p b ls y =
 abbrev Good : Run → ℕ → Type 0
 Good r k = Sound r × (count_of r ≤ k)
 
-good-first : (xs : List ℕ) (sh : Shelf) (q : First) → store_of xs ≡ q → Good (first_step q sh).run 1
-good-first xs sh (first.Is x) e = let f = store-fits xs x e in (record { height_high = f.height_high; ids_high = f.ids_high }, omega arith)
-good-first xs sh first.Bad e = (tt, omega arith)
+good-first : (xs : List ℕ) (sh : Shelf) (q : Option Store) → store_of xs ≡ q → Good (first_step q sh).run 1
+good-first xs sh (Some x) e = let f = store-fits xs x e in (record { height_high = f.height_high; ids_high = f.ids_high }, omega arith)
+good-first xs sh None e = (tt, omega arith)
 
 good-format : (desk : List ℕ) (x : Store) (starts : List ℕ) (sh : Shelf) (o : Result Unit Refusal) → Given x → format_checked desk x.height x.slots x.room x.ids key starts ≡ o
     → Good (format_by o x sh).run 1

@@ -11,8 +11,6 @@ use Rattle.requests.specs.Request.{RequestResult}
 use Rattle.requests.specs.Request as requests
 use Rattle.text.specs.Text.{bad_line}
 use Rattle.setup.specs.declared.Store.{Store}
-use Rattle.setup.specs.declared.First.{First}
-use Rattle.setup.specs.declared.First.TheVariants as first
 use Rattle.setup.specs.Setup.{store_of, start_good, start_leaves, most_shelf_height}
 use Rattle.script.specs.declared.Line.{Line}
 use Rattle.script.specs.declared.Line.TheVariants as line
@@ -41,9 +39,9 @@ bad_step sh = moved run.Over bad_line sh
 
 -- ---- the first line
 
-abbrev pub first_step : First → Shelf → Moved
-first_step (first.Is x) sh = moved (run.Second x) [] sh
-first_step first.Bad sh = bad_step sh
+abbrev pub first_step : Option Store → Shelf → Moved
+first_step (Some x) sh = moved (run.Second x) [] sh
+first_step None sh = bad_step sh
 
 -- ---- the second line: the leaves are read, and the desk is formatted with them
 

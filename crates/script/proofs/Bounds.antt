@@ -6,31 +6,30 @@ use mathlib.Core.Bool.{Bool, true, false, cond, ◌&&◌}
 use mathlib.Core.List.{List, [], ◌∷◌}
 use native.Mathlib.Omega.{arith}
 use borrow.Author.Tests.{leb-true, eqb-true}
-use lib.ListN.{length, drop, get_or, length-drop}
+use lib.ListN.{length, length-drop}
 use lib.Dec.{leb, eqb}
 use Rattle.words.proofs.Tests.{and_left, and_right, by_cases}
 use Rattle.sizes.specs.Sizes.{record_len, most_ids}
 use Rattle.desk.specs.declared.Kind.{Kind}
 use Rattle.desk.specs.declared.Kind.TheVariants.{Read, Write}
 use Rattle.text.specs.Text.{space, write_word, read_word}
-use Rattle.text.specs.Fronts.{begins, values, values_len, are_there, numbers_in, rest_in}
+use Rattle.text.specs.Fronts.{begins, values_len, are_there, numbers_in, rest_in}
 use Rattle.text.proofs.Bounds.{values_len-most}
-use Rattle.setup.specs.declared.First.{First}
-use Rattle.setup.specs.declared.First.TheVariants as first
+use Rattle.std.specs.Prelude.{Option, Some, None}
+use Rattle.setup.specs.declared.Store.{Store}
 use Rattle.setup.specs.Setup.{store_of, start_good, most_line}
 use Rattle.setup.proofs.Bounds.{store-fits, start-most}
-use Rattle.script.specs.declared.Line.{Line}
-use Rattle.script.specs.declared.Line.TheVariants as line
+use Rattle.script.specs.declared.Request.{Request}
 use Rattle.script.specs.Lines.{text_good, rest_good, request_after, request_of}
 
 -- ---- a line of requests
 
-request-is : (t : Bool) (kind k : Kind) (i l p id leaf text : ℕ) → cond t (line.Request kind i l p) line.Bad ≡ line.Request k id leaf text → (t ≡ true) × (p ≡ text)
-request-is true kind k i l p id leaf text e = (refl, cc)
-request-is false kind k i l p id leaf text e = absurd (let z : ◌≡◌ {A = ℕ} 0 1 = cc in omega arith)
+request-is : (t : Bool) (r q : Request) → cond t (Some r) None ≡ Some q → (t ≡ true) × (r.text ≡ q.text)
+request-is true r q e = (refl, cc)
+request-is false r q e = absurd (cc)
 
-bad-request : {A : Type 0} (k : Kind) (id leaf text : ℕ) → line.Bad ≡ line.Request k id leaf text → A
-bad-request k id leaf text e = absurd (let z : ◌≡◌ {A = ℕ} 0 1 = cc in omega arith)
+bad-request : {A : Type 0} (q : Request) → None ≡ Some q → A
+bad-request q e = absurd (cc)
 
 -- what stands after the leaf has at most a space and the bytes of a record
 rest-most : (kind : Kind) (rest : List ℕ) → rest_good kind rest ≡ true → length rest ≤ 1 + record_len
@@ -44,11 +43,11 @@ pub record Fits (xs : List ℕ) (text : ℕ) : Type 0 where
   pub text_most : length xs ≤ text + record_len
   pub line_most : length xs ≤ 80
 
-after-fits : (kind : Kind) (w : ℕ) (xs : List ℕ) (k : Kind) (id leaf text : ℕ) → w ≤ 6 → request_after kind w xs ≡ line.Request k id leaf text → Fits xs text
-after-fits kind w xs k id leaf text h e =
+after-fits : (kind : Kind) (w : ℕ) (xs : List ℕ) (q : Request) → w ≤ 6 → request_after kind w xs ≡ Some q → Fits xs q.text
+after-fits kind w xs q h e =
     let n = numbers_in w xs in
     let r = rest_in w 2 xs in
-    let p = request-is (are_there 2 n && rest_good kind r) kind k (get_or (values 2 n) 0 0) (get_or (values 2 n) 1 0) (length xs - length (drop 1 r)) id leaf text e in
+    let p = request-is (are_there 2 n && rest_good kind r) _ q e in
     let m = rest-most kind r (and_right (are_there 2 n) (rest_good kind r) p.0) in
     let a = length-drop (values_len 2 n) n in
     let b = length-drop (w - 1) xs in
@@ -56,20 +55,20 @@ after-fits kind w xs k id leaf text h e =
     let d = values_len-most 2 n in
     record { inside = omega (arith, p.1); text_most = omega (arith, p.1); line_most = omega arith }
 
-pub request-fits : (xs : List ℕ) (k : Kind) (id leaf text : ℕ) → request_of xs ≡ line.Request k id leaf text → Fits xs text
-request-fits xs k id leaf text e =
+pub request-fits : (xs : List ℕ) (q : Request) → request_of xs ≡ Some q → Fits xs q.text
+request-fits xs q e =
     by_cases (begins xs write_word)
-    (λ h. after-fits Write 6 xs k id leaf text (omega arith) (rw h at e))
+    (λ h. after-fits Write 6 xs q (omega arith) (rw h at e))
     (λ h. by_cases (begins xs read_word)
-    (λ g. after-fits Read 5 xs k id leaf text (omega arith) (rw (h, g) at e))
-    (λ g. bad-request k id leaf text (rw (h, g) at e)))
+    (λ g. after-fits Read 5 xs q (omega arith) (rw (h, g) at e))
+    (λ g. bad-request q (rw (h, g) at e)))
 
 -- ---- a line that is too long to be read is none of the three
 
 pub record TooLong (xs : List ℕ) : Type 0 where
-  pub no_store : store_of xs ≡ first.Bad
+  pub no_store : store_of xs ≡ None
   pub no_start : (n : ℕ) → n ≤ most_ids → start_good n xs ≡ false
-  pub no_request : request_of xs ≡ line.Bad
+  pub no_request : request_of xs ≡ None
 
 pub too_long : (xs : List ℕ) → most_line < length xs → TooLong xs
 too_long xs h =
@@ -79,10 +78,10 @@ too_long xs h =
       no_request = not-request (request_of xs) refl;
     }
   where
-    not-store : (x : First) → store_of xs ≡ x → x ≡ first.Bad
-    not-store (first.Is x) e = absurd (omega (arith, (store-fits xs x e).line_most))
-    not-store first.Bad e = refl
+    not-store : (x : Option Store) → store_of xs ≡ x → x ≡ None
+    not-store (Some x) e = absurd (omega (arith, (store-fits xs x e).line_most))
+    not-store None e = refl
 
-    not-request : (x : Line) → request_of xs ≡ x → x ≡ line.Bad
-    not-request (line.Request k id leaf text) e = absurd (omega (arith, (request-fits xs k id leaf text e).line_most))
-    not-request line.Bad e = refl
+    not-request : (x : Option Request) → request_of xs ≡ x → x ≡ None
+    not-request (Some q) e = absurd (omega (arith, (request-fits xs q e).line_most))
+    not-request None e = refl

@@ -1,39 +1,35 @@
 // A line of requests, `write ` or `read `, read; and the record that its text stands for. Each function goes by a line without its line feed. Assumes nothing.
 #![tactic(auto)]
 
-ghost use Rattle.std.specs.Prelude.{◌≡◌, ◌-◌, ◌≤◌, length};
+ghost use Rattle.std.specs.Prelude.{◌≡◌, ◌≤◌, length};
 ghost use Rattle.desk.specs.declared.Kind.TheVariants.{Write};
 ghost use Rattle.sizes.specs.Sizes.{record_len};
 ghost use Rattle.script.specs.Lines.{rest_good, request_after, request_of, record_of};
 
 use desk::Kind;
 use sizes::Sizes;
-use text::{Taken, bytes, numbers};
+use text::numbers;
 
 // A line of requests. The text stands from `text` up to the line's end.
 #[derive(Clone, Copy, Drop)]
-pub enum Line {
-    Request {
-        kind: Kind,
-        id: u16,
-        leaf: u16,
-        text: usize,
-    },
-    Bad,
+pub struct Request {
+    pub kind: Kind,
+    pub id: u16,
+    pub leaf: u16,
+    pub text: usize,
 }
 
 // Whether what stands after the leaf of a write is nothing, or one space and a text.
 fn text_rest(rest: &[u8]) -> bool
     ensures { result ≡ rest_good Write rest.now }
 {
-    if rest.len() == 0 {
+    if rest.is_empty() {
         return true;
     }
-    if rest[0] != bytes::SPACE {
+    let Some(text) = rest.strip_prefix(b" ") else {
         return false;
-    }
-    let text = &rest[1..];
-    (text.len() <= Sizes::RECORD) & (bytes::before(text, 0) == text.len())
+    };
+    text.len() <= Sizes::RECORD && !text.contains(&0)
 }
 
 // Whether what stands after the leaf is good for the kind.
@@ -41,56 +37,45 @@ fn rest_good(kind: Kind, rest: &[u8]) -> bool
     ensures { result ≡ rest_good kind rest.now }
 {
     match kind {
-        Kind::Read => rest.len() == 0,
+        Kind::Read => rest.is_empty(),
         Kind::Write => text_rest(rest),
     }
 }
 
-// Where the text begins: after the space at `at`. At the line's end there is none, and the text is empty.
-fn past(at: usize, end: usize) -> usize
-    requires { at ≤ end }
-    ensures { result ≡ end - (end - at - 1) }
-{
-    if at < end { at + 1 } else { end }
-}
-
 // A request after a word of `w` bytes. Its numbers are read from the word's own space on, so that each stands after one.
-fn request_after(line: &[u8], kind: Kind, w: usize) -> Line
+fn request_after(line: &[u8], kind: Kind, w: usize) -> Option<Request>
     requires { (1 ≤ w) × (w ≤ length line.now) }
     ensures { result ≡ request_after kind w line.now }
 {
     let from = w - 1;
     let mut two = [0u16; 2];
-    match numbers::numbers(&line[from..], &mut two) {
-        Taken::Bad => Line::Bad,
-        Taken::All(n) => {
-            let at = from + n;
-            if !rest_good(kind, &line[at..]) {
-                return Line::Bad;
-            }
-            Line::Request {
-                kind,
-                id: two[0],
-                leaf: two[1],
-                text: past(at, line.len()),
-            }
-        }
+    let at = from + numbers::numbers(&line[from..], &mut two)?;
+    if !rest_good(kind, &line[at..]) {
+        return None;
     }
+    // The text begins after the space at `at`. At the line's end there is none, and the text is empty.
+    let text = (at + 1).min(line.len());
+    Some(Request {
+        kind,
+        id: two[0],
+        leaf: two[1],
+        text,
+    })
 }
 
 // A line of requests.
-pub fn request_line(line: &[u8]) -> Line
+pub fn request_line(line: &[u8]) -> Option<Request>
     ensures { result ≡ request_of line.now }
 {
     let write: &[u8] = b"write ";
-    if bytes::begins(line, write) {
+    if line.starts_with(write) {
         return request_after(line, Kind::Write, write.len());
     }
     let read: &[u8] = b"read ";
-    if bytes::begins(line, read) {
+    if line.starts_with(read) {
         return request_after(line, Kind::Read, read.len());
     }
-    Line::Bad
+    None
 }
 
 // A text, padded with zeros to a record.

@@ -13,31 +13,31 @@ use Rattle.text.specs.Text.{store_word, start_word}
 use Rattle.text.specs.Fronts.{begins, values, values_len, are_there, numbers_in, rest_in}
 use Rattle.text.proofs.Bounds.{values_len-most, values_low}
 use Rattle.setup.specs.declared.Store.{Store}
-use Rattle.setup.specs.declared.First.TheVariants as first
+use Rattle.std.specs.Prelude.{Some, None}
 use Rattle.setup.specs.Setup.{most_shelf_height, most_byte, store_with, store_of, start_end, start_good, most_line}
 
 -- ---- the first line
 
-store_is : (t : Bool) (a x : Store) → cond t (first.Is a) first.Bad ≡ first.Is x → (t ≡ true) × (a ≡ x)
+store_is : (t : Bool) (a x : Store) → cond t (Some a) None ≡ Some x → (t ≡ true) × (a ≡ x)
 store_is true a x e = (refl, cc)
-store_is false a x e = absurd (let z : ◌≡◌ {A = ℕ} 0 1 = cc in omega arith)
+store_is false a x e = absurd (cc)
 
-bad-store : {A : Type 0} (x : Store) → first.Bad ≡ first.Is x → A
-bad-store x e = absurd (let z : ◌≡◌ {A = ℕ} 0 1 = cc in omega arith)
+bad-store : {A : Type 0} (x : Store) → None ≡ Some x → A
+bad-store x e = absurd (cc)
 
 pub record Stored (xs : List ℕ) (x : Store) : Type 0 where
   pub height_high : x.height ≤ most_shelf_height
   pub ids_high : x.ids ≤ most_ids
   pub line_most : length xs ≤ 25
 
-pub store-fits : (xs : List ℕ) (x : Store) → store_of xs ≡ first.Is x → Stored xs x
+pub store-fits : (xs : List ℕ) (x : Store) → store_of xs ≡ Some x → Stored xs x
 store-fits xs x e =
     let v = numbers_in 6 xs in
     let r = rest_in 6 4 xs in
     let t = begins xs store_word && are_there 4 v && eqb (length r) 0 in
     by_cases t
     (λ h.
-    let q : store_with (values 4 v) ≡ first.Is x = rw h at e in
+    let q : store_with (values 4 v) ≡ Some x = rw h at e in
     let p = store_is (leb (get_or (values 4 v) 0 0) most_shelf_height && leb (get_or (values 4 v) 2 0) most_byte) _ x q in
     let a = leb-true (get_or (values 4 v) 0 0) most_shelf_height (and_left _ (leb (get_or (values 4 v) 2 0) most_byte) p.0) in
     let b = values_low 4 v 3 in

@@ -1,11 +1,10 @@
 -- What the script's first two lines mean. Definitions go by the bytes of a line, without its line feed. Assumes nothing.
-use Rattle.std.specs.Prelude.{ℕ, zero, suc, ◌+◌, ◌*◌, ◌-◌, min, Bool, cond, ◌&&◌, List, length, get_or, leb, eqb}
+use Rattle.std.specs.Prelude.{ℕ, zero, suc, ◌+◌, ◌*◌, ◌-◌, min, Bool, cond, ◌&&◌, List, length, get_or, leb, eqb, Option, Some, None}
 use Rattle.words.specs.Bytes.{splice}
 use Rattle.sizes.specs.Sizes.{most_ids}
 use Rattle.text.specs.Text.{store_word, start_word}
 use Rattle.text.specs.Fronts.{begins, most_digits, values, values_len, are_there, numbers_in, rest_in}
-use Rattle.setup.specs.declared.First.{First}
-use Rattle.setup.specs.declared.First.TheVariants as first
+use Rattle.setup.specs.declared.Store.{Store}
 
 -- ---- `store ` L Z S N: L at most 3, S at most 255
 
@@ -16,17 +15,17 @@ abbrev pub most_byte : ℕ
 most_byte = 255
 
 -- a Z above a byte is out of range, as 255 is
-abbrev pub store_by : ℕ → ℕ → ℕ → ℕ → First
-store_by l z s n = cond (leb l most_shelf_height && leb s most_byte) (first.Is (record { height = l; slots = min z most_byte; room = s; ids = n })) first.Bad
+abbrev pub store_by : ℕ → ℕ → ℕ → ℕ → Option Store
+store_by l z s n = cond (leb l most_shelf_height && leb s most_byte) (Some (record { height = l; slots = min z most_byte; room = s; ids = n })) None
 
-abbrev pub store_with : List ℕ → First
+abbrev pub store_with : List ℕ → Option Store
 store_with vs = store_by (get_or vs 0 0) (get_or vs 1 0) (get_or vs 2 0) (get_or vs 3 0)
 
-abbrev pub store_of : List ℕ → First
+abbrev pub store_of : List ℕ → Option Store
 store_of xs =
     cond (begins xs store_word && are_there 4 (numbers_in (length store_word) xs) && eqb (length (rest_in (length store_word) 4 xs)) 0)
     (store_with (values 4 (numbers_in (length store_word) xs)))
-    first.Bad
+    None
 
 -- ---- `start ` and exactly n leaves
 

@@ -7,7 +7,8 @@ use native.Mathlib.Omega.{arith}
 use lib.ListN.{length, length-append}
 use Rattle.words.specs.Bytes.{splice}
 use Rattle.text.specs.Text.{bad_line}
-use Rattle.setup.specs.declared.First.{First}
+use Rattle.std.specs.Prelude.{Option}
+use Rattle.setup.specs.declared.Store.{Store}
 use Rattle.setup.specs.Setup.{most_line}
 use Rattle.script.specs.declared.Line.{Line}
 use Rattle.script.proofs.Bounds.{too_long}
@@ -18,7 +19,7 @@ use Rattle.runs.specs.Run.{first_step, second_step, request_step, step_of, is_ov
 use Rattle.shelf.specs.Turns.{Said}
 
 ends : (r : Run) (xs : List ℕ) (sh : Shelf) → most_line < length xs → Sound r → is_over r ≡ false → ((step_of r xs sh).run ≡ run.Over) × ((step_of r xs sh).text ≡ bad_line)
-ends run.First xs sh h s g = let e = (too_long xs h).no_store in (ap (λ (q : First). (first_step q sh).run) e, ap (λ (q : First). (first_step q sh).text) e)
+ends run.First xs sh h s g = let e = (too_long xs h).no_store in (ap (λ (q : Option Store). (first_step q sh).run) e, ap (λ (q : Option Store). (first_step q sh).text) e)
 ends (run.Second x) xs sh h s g =
     let e = (too_long xs h).no_start x.ids s.ids_high in
     (ap (λ (q : Bool). (second_step q x xs sh).run) e, ap (λ (q : Bool). (second_step q x xs sh).text) e)

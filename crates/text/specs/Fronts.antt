@@ -1,10 +1,7 @@
 -- What stands at the front of a text: the bytes before the first b, a word, a number, numbers in a row. Assumes nothing.
-use Rattle.std.specs.Prelude.{ℕ, zero, suc, ◌+◌, ◌*◌, ◌-◌, ◌≤◌, Bool, cond, ◌&&◌, List, [], ◌∷◌, length, take, drop, get_or, leb, eqb}
+use Rattle.std.specs.Prelude.{ℕ, zero, suc, ◌+◌, ◌*◌, ◌-◌, ◌≤◌, Bool, cond, ◌&&◌, List, [], ◌∷◌, length, take, drop, get_or, leb, eqb, Option, Some, None}
 use Rattle.words.specs.Bytes.{same}
 use Rattle.text.specs.declared.Number.{Number}
-use Rattle.text.specs.declared.Number.TheVariants as number
-use Rattle.text.specs.declared.Taken.{Taken}
-use Rattle.text.specs.declared.Taken.TheVariants as taken
 use Rattle.text.specs.Text.{space}
 
 -- the bytes of xs before the first b; all of them where there is none
@@ -47,25 +44,25 @@ value v [] = v
 value v (d ∷ ds) = value (v * ten + (d - zero_digit)) ds
 
 -- n digits of value v, and the number at the front of xs
-abbrev pub number_by : ℕ → ℕ → Number
-number_by n v = cond (leb 1 n && leb n most_digits && leb v most_number) (number.Is v n) number.None
+abbrev pub number_by : ℕ → ℕ → Option Number
+number_by n v = cond (leb 1 n && leb n most_digits && leb v most_number) (Some (record { value = v; len = n })) None
 
-abbrev pub number_of : List ℕ → Number
+abbrev pub number_of : List ℕ → Option Number
 number_of xs = number_by (length (digits xs)) (value 0 (digits xs))
 
 -- ---- n numbers, each after one space: the first after that of the line's word
 
-abbrev pub spaced : List ℕ → Number
-spaced xs = cond (eqb (get_or xs 0 0) space) (number_of (drop 1 xs)) number.None
+abbrev pub spaced : List ℕ → Option Number
+spaced xs = cond (eqb (get_or xs 0 0) space) (number_of (drop 1 xs)) None
 
 -- what a number and those after it come to, by how many bytes it takes with its space
-abbrev pub then_values : Number → (ℕ → List ℕ) → List ℕ
-then_values (number.Is v n) others = v ∷ others (1 + n)
-then_values number.None others = []
+abbrev pub then_values : Option Number → (ℕ → List ℕ) → List ℕ
+then_values (Some x) others = x.value ∷ others (1 + x.len)
+then_values None others = []
 
-abbrev pub then_len : Number → (ℕ → ℕ) → ℕ
-then_len (number.Is v n) others = 1 + n + others (1 + n)
-then_len number.None others = 0
+abbrev pub then_len : Option Number → (ℕ → ℕ) → ℕ
+then_len (Some x) others = 1 + x.len + others (1 + x.len)
+then_len None others = 0
 
 -- the values of those at the front of xs, at most n, and how many bytes they take
 unfoldable pub values : ℕ → List ℕ → List ℕ
@@ -80,13 +77,13 @@ values_len (suc n) xs = then_len (spaced xs) (λ len. values_len n (drop len xs)
 abbrev pub are_there : ℕ → List ℕ → Bool
 are_there n xs = eqb (length (values n xs)) n
 
-abbrev pub taken_of : ℕ → List ℕ → Taken
-taken_of n xs = cond (are_there n xs) (taken.All (values_len n xs)) taken.Bad
+abbrev pub taken_of : ℕ → List ℕ → Option ℕ
+taken_of n xs = cond (are_there n xs) (Some (values_len n xs)) None
 
 -- a place that was reached is inside
-abbrev pub Inside : Taken → ℕ → Type 0
-Inside (taken.All n) end = n ≤ end
-Inside taken.Bad end = Unit
+abbrev pub Inside : Option ℕ → ℕ → Type 0
+Inside (Some n) end = n ≤ end
+Inside None end = Unit
 
 -- the numbers of a line after a word of w bytes, and what stands after n of them
 abbrev pub numbers_in : ℕ → List ℕ → List ℕ

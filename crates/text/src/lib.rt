@@ -7,14 +7,7 @@ pub mod numbers;
 
 // A number of the script: its value, and how many digits it has.
 #[derive(Clone, Copy, Drop)]
-pub enum Number {
-    Is { value: u16, len: usize },
-    None,
-}
-
-// Numbers in a row: how many bytes they take.
-#[derive(Clone, Copy, Drop)]
-pub enum Taken {
-    All(usize),
-    Bad,
+pub struct Number {
+    pub value: u16,
+    pub len: usize,
 }

@@ -41,10 +41,5 @@ pub fn shift(window: &mut [u8], from: usize, to: usize)
     requires { (from ≤ to) × (to ≤ length window.old) }
     ensures { window.new ≡ splice window.old 0 (part window.old from (to - from)) }
 {
-    let n = to - from;
-    let mut i = 0;
-    while i < n {
-        window[i] = window[from + i];
-        i += 1;
-    }
+    window.copy_within(from..to, 0);
 }

@@ -2,80 +2,65 @@
 use mathlib.Core.Path.{sym, ap, ◌∙◌}
 use native.Mathlib.Omega.{arith}
 use lib.ListN.{length}
-use Rattle.text.proofs.Found.{begins-length}
-use Rattle.lines.specs.Words.{ok_word, not_ok_word, plan_word}
+use Rattle.text.proofs.Found.{starts-begins, same-as, strips-begins}
+use Rattle.lines.specs.Words.{version_line, hash, ok_word, not_ok_word, plan_word}
 use Rattle.lines.specs.Line.{line_of, plan_after}
-use Rattle.lines.proofs.Tails.{tail-is}
+use Rattle.lines.proofs.Tails.{first-as}
 use Rattle.lines.proofs.Arms.{plan-inside}
 use Rattle.lines.proofs.read.Goals as goal
 
-pub returns-then-same : goal.returns-then-same
+pub returns-then-eq : goal.returns-then-eq
 unfolding line_of
-returns-then-same c =
-    let e1 = sym c.same.ensures ∙ c.if-same.true in
+returns-then-eq c =
+    let e1 = same-as c.args.line.now version_line _ c.as_slice.ensures ∙ sym c.eq.ensures ∙ c.if-eq.true in
     (rw e1, tt)
 
-pub returns-then-begins_with : goal.returns-then-begins_with
+pub returns-then-starts_with : goal.returns-then-starts_with
 unfolding line_of
-returns-then-begins_with c =
-    let e1 = sym c.same.ensures ∙ c.if-same.false in
-    let e2 = sym c.begins_with.ensures ∙ c.if-begins_with.true in
+returns-then-starts_with c =
+    let line = c.args.line.now in
+    let e1 = same-as line version_line _ c.as_slice.ensures ∙ sym c.eq.ensures ∙ c.if-eq.false in
+    let e2 = sym (first-as line hash (omega arith)) ∙ sym c.starts_with.ensures.value ∙ c.if-starts_with.true in
     (rw (e1, e2), tt)
 
-pub test_after-requires : goal.test_after-requires
-test_after-requires c =
-    let k = begins-length c.args.line.now ok_word (sym c.begins.ensures ∙ c.if-begins.true) in
-    omega arith
-
-pub returns-then-begins : goal.returns-then-begins
+pub returns-then-starts_with-2 : goal.returns-then-starts_with-2
 unfolding line_of
-returns-then-begins c =
-    let e1 = sym c.same.ensures ∙ c.if-same.false in
-    let e2 = sym c.begins_with.ensures ∙ c.if-begins_with.false in
-    let e3 = sym c.begins.ensures ∙ c.if-begins.true in
+returns-then-starts_with-2 c =
+    let line = c.args.line.now in
+    let e1 = same-as line version_line _ c.as_slice.ensures ∙ sym c.eq.ensures ∙ c.if-eq.false in
+    let e2 = sym (first-as line hash (omega arith)) ∙ sym c.starts_with.ensures.value ∙ c.if-starts_with.false in
+    let e3 = sym (starts-begins line ok_word) ∙ sym c.starts_with-2.ensures.value ∙ c.if-starts_with-2.true in
     (rw (e1, e2, e3) c.test_after.ensures.0, c.test_after.ensures.1)
 
-pub test_after-requires-then-begins-2 : goal.test_after-requires-then-begins-2
-test_after-requires-then-begins-2 c =
-    let k = begins-length c.args.line.now not_ok_word (sym c.begins-2.ensures ∙ c.if-begins-2.true) in
-    omega arith
-
-pub returns-then-begins-2 : goal.returns-then-begins-2
+pub returns-then-starts_with-3 : goal.returns-then-starts_with-3
 unfolding line_of
-returns-then-begins-2 c =
-    let e1 = sym c.same.ensures ∙ c.if-same.false in
-    let e2 = sym c.begins_with.ensures ∙ c.if-begins_with.false in
-    let e3 = sym c.begins.ensures ∙ c.if-begins.false in
-    let e4 = sym c.begins-2.ensures ∙ c.if-begins-2.true in
-    (rw (e1, e2, e3, e4) c.test_after-then-begins-2.ensures.0, c.test_after-then-begins-2.ensures.1)
-
-pub slice_bounds-plan_after-count : goal.slice_bounds-plan_after-count
-slice_bounds-plan_after-count c =
-    let k = begins-length c.args.line.now plan_word (sym c.begins-3.ensures ∙ c.if-begins-3.true) in
-    omega arith
-
-pub slice_bounds-plan_after-start : goal.slice_bounds-plan_after-start
-slice_bounds-plan_after-start c =
-    let k = begins-length c.args.line.now plan_word (sym c.begins-3.ensures ∙ c.if-begins-3.true) in
-    omega arith
-
-pub returns-then-begins-3 : goal.returns-then-begins-3
-unfolding line_of
-returns-then-begins-3 c =
+returns-then-starts_with-3 c =
     let line = c.args.line.now in
-    let e1 = sym c.same.ensures ∙ c.if-same.false in
-    let e2 = sym c.begins_with.ensures ∙ c.if-begins_with.false in
-    let e3 = sym c.begins.ensures ∙ c.if-begins.false in
-    let e4 = sym c.begins-2.ensures ∙ c.if-begins-2.false in
-    let e5 = sym c.begins-3.ensures ∙ c.if-begins-3.true in
-    (rw (e1, e2, e3, e4, e5) (c.plan_after.ensures ∙ ap plan_after (tail-is line 3 (begins-length line plan_word e5))), plan-inside (length line) _ _ c.plan_after.ensures)
+    let e1 = same-as line version_line _ c.as_slice.ensures ∙ sym c.eq.ensures ∙ c.if-eq.false in
+    let e2 = sym (first-as line hash (omega arith)) ∙ sym c.starts_with.ensures.value ∙ c.if-starts_with.false in
+    let e3 = sym (starts-begins line ok_word) ∙ sym c.starts_with-2.ensures.value ∙ c.if-starts_with-2.false in
+    let e4 = sym (starts-begins line not_ok_word) ∙ sym c.starts_with-3.ensures.value ∙ c.if-starts_with-3.true in
+    (rw (e1, e2, e3, e4) c.test_after-then-starts_with-3.ensures.0, c.test_after-then-starts_with-3.ensures.1)
 
-pub returns : goal.returns
+pub returns-in-Some : goal.returns-in-Some
 unfolding line_of
-returns c =
-    let e1 = sym c.same.ensures ∙ c.if-same.false in
-    let e2 = sym c.begins_with.ensures ∙ c.if-begins_with.false in
-    let e3 = sym c.begins.ensures ∙ c.if-begins.false in
-    let e4 = sym c.begins-2.ensures ∙ c.if-begins-2.false in
-    let e5 = sym c.begins-3.ensures ∙ c.if-begins-3.false in
+returns-in-Some c =
+    let line = c.args.line.now in
+    let e1 = same-as line version_line _ c.as_slice.ensures ∙ sym c.eq.ensures ∙ c.if-eq.false in
+    let e2 = sym (first-as line hash (omega arith)) ∙ sym c.starts_with.ensures.value ∙ c.if-starts_with.false in
+    let e3 = sym (starts-begins line ok_word) ∙ sym c.starts_with-2.ensures.value ∙ c.if-starts_with-2.false in
+    let e4 = sym (starts-begins line not_ok_word) ∙ sym c.starts_with-3.ensures.value ∙ c.if-starts_with-3.false in
+    let p = c.in-Some.ensures.cases in
+    let e5 = sym (strips-begins line plan_word) ∙ p.0 in
+    (rw (e1, e2, e3, e4, e5) (c.plan_after.ensures ∙ ap plan_after p.1), plan-inside (length line) _ _ c.plan_after.ensures)
+
+pub returns-in-None : goal.returns-in-None
+unfolding line_of
+returns-in-None c =
+    let line = c.args.line.now in
+    let e1 = same-as line version_line _ c.as_slice.ensures ∙ sym c.eq.ensures ∙ c.if-eq.false in
+    let e2 = sym (first-as line hash (omega arith)) ∙ sym c.starts_with.ensures.value ∙ c.if-starts_with.false in
+    let e3 = sym (starts-begins line ok_word) ∙ sym c.starts_with-2.ensures.value ∙ c.if-starts_with-2.false in
+    let e4 = sym (starts-begins line not_ok_word) ∙ sym c.starts_with-3.ensures.value ∙ c.if-starts_with-3.false in
+    let e5 = sym (strips-begins line plan_word) ∙ c.in-None.ensures.cases in
     (rw (e1, e2, e3, e4, e5), tt)

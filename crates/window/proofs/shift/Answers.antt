@@ -1,28 +1,15 @@
--- `window::shift` meets its contract: after i turns the first i bytes of the text stand at the front. Assumes nothing.
-use Prim.Native.Nat.{ℕ, ◌-◌}
-use mathlib.Core.Path.{refl, sym, ap, ◌∙◌}
-use mathlib.Core.List.{List}
+-- `window::shift` meets its contract: the library's `copy_within` lays the part at the front. Assumes nothing.
+use Prim.Native.Nat.{◌-◌}
+use mathlib.Core.Path.{◌≡◌, ◌∙◌}
 use native.Mathlib.Omega.{arith}
-use lib.ListN.{length-set}
-use lib.Seq.{take_all}
+use lib.ListN.{length}
 use Rattle.words.specs.Bytes.{part, splice}
-use Rattle.words.proofs.Splice.{splice-nil, length_part}
-use Rattle.window.proofs.Pieces.{shift-turn}
+use Rattle.words.proofs.Splice.{length_part}
 use Rattle.window.proofs.shift.Goals as goal
 
-pub loop-i-init : goal.loop-i-init
-loop-i-init c = ((omega arith, refl), sym (splice-nil c.args.window.now 0))
-
-pub loop-i-preserved : goal.loop-i-preserved
-loop-i-preserved c =
-    let l = c.loop-i in
-    let a = c.args in (
-      (omega arith, simp length-set (omega arith)),
-      shift-turn a.window.now l.window a.from (a.to - a.from) l.i (omega arith) (omega arith) l.invariant.1,
-    )
-
 pub returns : goal.returns
+unfolding splice
 returns c =
-    let l = c.loop-i in
     let a = c.args in
-    l.invariant.1 ∙ ap (λ (x : List ℕ). splice a.window.now 0 x) (take_all l.i (part a.window.now a.from (a.to - a.from)) (omega (arith, length_part a.window.now a.from (a.to - a.from) (omega arith))))
+    let n : length (part a.window.now a.from (a.to - a.from)) ≡ a.to - a.from = length_part a.window.now a.from (a.to - a.from) (omega arith) in
+    c.copy_within.ensures.after ∙ rw n

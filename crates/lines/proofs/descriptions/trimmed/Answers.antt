@@ -1,40 +1,23 @@
--- `lines::descriptions::trimmed` meets its contract: the spaces behind the first i bytes are passed, and what stands before decides. Assumes nothing.
-use mathlib.Core.Path.{◌≡◌, refl, sym, ap, ◌∙◌}
-use native.Mathlib.Omega.{arith}
-use Rattle.lines.specs.Line.{trimmed}
-use Rattle.lines.proofs.Spaces.{trimmed-step, trimmed-stop, trimmed-end}
+-- `lines::descriptions::trimmed` meets its contract: what stands behind the last byte that is no space is spaces. Assumes nothing.
+use Rattle.std.proofs.Common.{◌≡◌, ◌≢◌, ◌<◌, ℕ, get_or, take, arith, sym, ◌∙◌}
+use Rattle.std.proofs.lemmas.Grind.{common_steps}
+use lib.Seq.{get_or-take}
+use Rattle.lines.proofs.Spaces.{trimmed_none, trimmed_last}
 use Rattle.lines.proofs.descriptions.trimmed.Goals as goal
 
-pub loop-i-init : goal.loop-i-init
-loop-i-init c = ((omega arith, omega arith), refl)
-
-pub overflow_sub-i : goal.overflow_sub-i
-overflow_sub-i c = omega arith
-
-pub bounds-s-i : goal.bounds-s-i
-bounds-s-i c = omega arith
-
-pub returns-then-s-i-ne-SPACE : goal.returns-then-s-i-ne-SPACE
-returns-then-s-i-ne-SPACE c =
-    let l = c.loop-i in
-    let a = c.args in
-    (sym (l.invariant.1 ∙ trimmed-stop a.s.now l.i (omega arith) c.if-s-i-ne-SPACE.true), l.invariant.0.0)
-
-pub overflow_sub-i-in-loop-i : goal.overflow_sub-i-in-loop-i
-overflow_sub-i-in-loop-i c = omega arith
-
-pub loop-i-smaller : goal.loop-i-smaller
-loop-i-smaller c = omega arith
-
-pub loop-i-preserved : goal.loop-i-preserved
-loop-i-preserved c =
-    let l = c.loop-i in
-    let a = c.args in
-    ((omega arith, omega arith), l.invariant.1 ∙ trimmed-step a.s.now l.i (omega arith) c.if-s-i-ne-SPACE.false)
-
-pub returns : goal.returns
-returns c =
-    let l = c.loop-i in
+pub returns-in-Some : goal.returns-in-Some
+returns-in-Some c =
+    let n = c.args.n in
     let s = c.args.s.now in
-    let z : l.i ≡ 0 = omega arith in
-    (sym (l.invariant.1 ∙ ap (λ k. trimmed k s) z ∙ trimmed-end s), omega arith)
+    let last = c.in-Some.last in
+    let low : last < n = grind (arith, common_steps) in
+    let here : get_or (take n s) last 0 ≢ 32 = grind (arith, common_steps) in
+    let behind : (k : ℕ) → last < k → k < n → get_or (take n s) k 0 ≡ 32 = grind (arith, common_steps) in
+    (sym (trimmed_last n last s low (λ e. here (get_or-take n s last 0 low ∙ e)) (λ k h l. sym (get_or-take n s k 0 l) ∙ behind k h l)), omega arith)
+
+pub returns-in-None : goal.returns-in-None
+returns-in-None c =
+    let n = c.args.n in
+    let s = c.args.s.now in
+    let all : (k : ℕ) → k < n → get_or (take n s) k 0 ≡ 32 = grind (arith, common_steps) in
+    (sym (trimmed_none n s (λ k h. sym (get_or-take n s k 0 h) ∙ all k h)), omega arith)

@@ -1,28 +1,21 @@
--- `lines::fronts::spaces` meets its contract: the i bytes that were passed are counted, and what stands from there on decides. Assumes nothing.
-use mathlib.Core.Path.{ap}
+-- `lines::fronts::spaces` meets its contract: they are as many as the library's place of the first byte that is none. Assumes nothing.
+use mathlib.Core.Path.{◌≡◌, ◌∙◌, ap}
+use mathlib.Core.Bool.{not}
 use native.Mathlib.Omega.{arith}
-use lib.ListN.{drop_of_length-le}
+use lib.ListN.{length}
+use lib.Dec.{eqb}
+use Rattle.std.proofs.Common.{rules, tests}
+use Rattle.std.specs.Prelude.{position, unwrap_or}
+use Rattle.std.proofs.lemmas.Iterator.{YieldsList-from_slice}
+use Rattle.std.proofs.lemmas.Iterator.Search.{position_from_yields_List}
+use Rattle.text.specs.Text.{space}
 use Rattle.lines.specs.Line.{leading}
-use Rattle.lines.proofs.Spaces.{leading_step, leading-stop, leading_end}
+use Rattle.lines.proofs.Spaces.{leading_position, leading-most}
 use Rattle.lines.proofs.fronts.spaces.Goals as goal
-
-pub loop-i-init : goal.loop-i-init
-loop-i-init c = (omega arith, omega arith)
-
-pub returns-then-s-i-ne-SPACE : goal.returns-then-s-i-ne-SPACE
-returns-then-s-i-ne-SPACE c =
-    let l = c.loop-i in
-    let a = c.args in
-    (omega (arith, l.invariant.1, leading-stop a.s.now l.i (omega arith) c.if-s-i-ne-SPACE.true), omega arith)
-
-pub loop-i-preserved : goal.loop-i-preserved
-loop-i-preserved c =
-    let l = c.loop-i in
-    let a = c.args in
-    (omega arith, omega (arith, l.invariant.1, leading_step a.s.now l.i (omega arith) c.if-s-i-ne-SPACE.false))
 
 pub returns : goal.returns
 returns c =
-    let l = c.loop-i in
-    let a = c.args in
-    (omega (arith, l.invariant.1, ap leading (drop_of_length-le a.s.now {i = l.i} (omega arith)), leading_end), omega arith)
+    let s = c.args.s.now in
+    let e : c.position.result ≡ position (λ x. not (eqb x space)) s = position_from_yields_List (λ x. not (eqb x space)) _ _ c.position.result c.position.ensures.ran (YieldsList-from_slice _ c.iter.ensures.rest) (λ x d q k. search (rules, tests)) in
+    let u : c.unwrap_or.result ≡ leading s = c.unwrap_or.ensures ∙ ap (λ p. unwrap_or p (length s)) e ∙ leading_position s in
+    (u, omega (arith, leading-most s))

@@ -1,28 +1,20 @@
--- `text::bytes::before` meets its contract: the i bytes that were passed are counted, and what stands from there on decides. Assumes nothing.
-use mathlib.Core.Path.{ap}
+-- `text::bytes::before` meets its contract: what stands before the first b is as long as the library's place of it. Assumes nothing.
+use mathlib.Core.Path.{◌≡◌, ◌∙◌, ap}
 use native.Mathlib.Omega.{arith}
-use lib.ListN.{length, drop_of_length-le}
+use lib.ListN.{length}
+use lib.Dec.{eqb}
+use Rattle.std.proofs.Common.{rules, tests}
+use Rattle.std.specs.Prelude.{position, unwrap_or}
+use Rattle.std.proofs.lemmas.Iterator.{YieldsList-from_slice}
+use Rattle.std.proofs.lemmas.Iterator.Search.{position_from_yields_List}
 use Rattle.text.specs.Fronts.{before}
-use Rattle.text.proofs.Fronts.{before-step, before-stop, before-end}
+use Rattle.text.proofs.Fronts.{before_position, before_length}
 use Rattle.text.proofs.bytes.before.Goals as goal
-
-pub loop-i-init : goal.loop-i-init
-loop-i-init c = (omega arith, omega arith)
-
-pub returns-then-s-i : goal.returns-then-s-i
-returns-then-s-i c =
-    let l = c.loop-i in
-    let a = c.args in
-    (omega (arith, l.invariant.1, before-stop a.b a.s.now l.i (omega arith) c.if-s-i.true), omega arith)
-
-pub loop-i-preserved : goal.loop-i-preserved
-loop-i-preserved c =
-    let l = c.loop-i in
-    let a = c.args in
-    (omega arith, omega (arith, l.invariant.1, before-step a.b a.s.now l.i (omega arith) c.if-s-i.false))
 
 pub returns : goal.returns
 returns c =
-    let l = c.loop-i in
-    let a = c.args in
-    (omega (arith, l.invariant.1, ap (λ x. length (before a.b x)) (drop_of_length-le a.s.now {i = l.i} (omega arith)), before-end a.b), omega arith)
+    let b = c.args.b in
+    let s = c.args.s.now in
+    let e : c.position.result ≡ position (λ x. eqb x b) s = position_from_yields_List (λ x. eqb x b) _ _ c.position.result c.position.ensures.ran (YieldsList-from_slice _ c.iter.ensures.rest) (λ x d q k. search (rules, tests)) in
+    let u : c.unwrap_or.result ≡ length (before b s) = c.unwrap_or.ensures ∙ ap (λ p. unwrap_or p (length s)) e ∙ before_position b s in
+    (u, omega (arith, before_length b s))
