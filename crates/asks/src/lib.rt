@@ -6,7 +6,7 @@ ghost use Rattle.words.specs.Bytes.{splice};
 ghost use Rattle.desk.specs.Layout.{Whole, shape_of};
 ghost use Rattle.asks.specs.Ask.{record_fits, ask_checked, head_bytes, record_bytes, opened, ask_of, ask_result};
 
-use desk::Kind;
+use desk::{Kind, Status};
 use sizes::Refusal;
 
 // Whether the lent record fits the kind, where a record has `r` bytes.
@@ -26,11 +26,11 @@ fn ask_checked(desk: &[u8], kind: Kind, id: u16, leaf: u16, record: &[u8]) -> Re
     if !desk::good(desk) {
         return Err(Refusal::BadDesk);
     }
-    let status = desk[desk::STATUS];
-    if desk::FIRST_STOPPED <= status {
+    let status = desk::status_of(desk);
+    if status.is_stopped() {
         return Err(Refusal::Stopped);
     }
-    if status == desk::OPEN {
+    if status == Status::Open {
         return Err(Refusal::Open);
     }
     let h = desk::shape_of(desk);
@@ -52,7 +52,7 @@ fn request_head(kind: Kind, id: u16, leaf: u16) -> [u8; desk::REQUEST_HEAD]
     ensures { result ≡ head_bytes kind id leaf }
 {
     [
-        desk::kind_number(kind),
+        u8::from(kind),
         0,
         (id % 256) as u8,
         (id / 256 % 256) as u8,
@@ -84,7 +84,7 @@ fn open_request(desk: &mut [u8], kind: Kind, id: u16, leaf: u16, record: &[u8])
     let head = request_head(kind, id, leaf);
     words::copy(desk, at, &head);
     put_record(desk, at + desk::REQUEST_HEAD, kind, record, h.r);
-    desk[desk::STATUS] = desk::OPEN;
+    desk[desk::STATUS] = u8::from(Status::Open);
 }
 
 // The answer is the id's position: the leaf that is asked for.

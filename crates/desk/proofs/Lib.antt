@@ -1,5 +1,6 @@
 pub mod Lengths
 pub mod Known
+pub mod Statuses
 pub mod Outside
 pub mod Changed
 pub mod Frame

@@ -7,7 +7,7 @@ ghost use Rattle.desk.specs.Layout.{Small, slot_at, e_len, shape_len};
 ghost use Rattle.desk.specs.Together.{InSixteenBits};
 ghost use Rattle.desk.specs.Good.{open_good, request_good, slot_after, slot_good, stash_good, bodies_good};
 
-use super::{Shape, positions};
+use super::{Shape, Status, positions};
 use sizes::Sizes;
 
 // Whether body (c) is good at a status that is not 0.
@@ -29,12 +29,12 @@ fn open_good(c: &[u8], most: usize, n: usize) -> bool
         & ((kind == 1) | words::is_zero(&c[start..]))
 }
 
-// Whether body (c) is good.
+// Whether body (c) is good. The status is the byte as it stands: whether it is one is looked at elsewhere.
 fn request_good(c: &[u8], status: u8, most: usize, n: usize) -> bool
     requires { request_head ≤ length c.now }
     ensures { result ≡ request_good status most n c.now }
 {
-    if status == super::READY {
+    if status == u8::from(Status::Ready) {
         return words::is_zero(c);
     }
     open_good(c, most, n)

@@ -8,14 +8,15 @@ use sizes::Sizes;
 mod bodies;
 mod positions;
 
-ghost use Rattle.std.specs.Prelude.{◌≡◌, [], ◌∷◌, ◌++◌, ◌+◌, ◌≤◌, length};
+ghost use Rattle.std.specs.Prelude.{◌≡◌, true, leb, [], ◌∷◌, ◌++◌, ◌+◌, ◌≤◌, length};
 ghost use Rattle.words.specs.Bytes.{part, splice, same};
 ghost use Rattle.words.specs.Numbers.{bytes_of};
 ghost use Rattle.sizes.specs.Sizes.{contents_len, place_len, ids_good};
 ghost use Rattle.desk.specs.Layout.{Small, Whole, b_at, c_at, d_at, e_at, slot_at, shape_len, pair, pair_len, contents, ids_of, shape_of};
-ghost use Rattle.desk.specs.Readers.{sizes_of, position_of};
+ghost use Rattle.desk.specs.Readers.{sizes_of, status_of, position_of};
 ghost use Rattle.desk.specs.Good.{good_desk, head_good};
-ghost use Rattle.desk.specs.Numbers.{kind_of};
+ghost use Rattle.desk.specs.Status.{first_stopped};
+ghost use Rattle.desk.specs.Numbers.{kind_of, status_number, NamesStatus};
 
 pub const PAIR: usize = 8;
 
@@ -67,38 +68,78 @@ pub const ZEROS_IN: usize = 6;
 
 pub const MARK_IN: usize = 2;
 
-// Statuses.
-pub const READY: u8 = 0;
+// A desk's status. One that is stopped takes no request any more.
+#[derive(Clone, Copy, Debug, PartialEq, Eq)]
+pub enum Status {
+    Ready,
+    Open,
+    Forged,
+    Worn,
+    Full,
+}
 
-pub const OPEN: u8 = 1;
+impl From<Status> for u8 {
+    ghost from_gives = { λ s n. n ≡ status_number s };
 
-pub const FORGED: u8 = 2;
+    fn from(s: Status) -> u8 {
+        match s {
+            Status::Ready => 0,
+            Status::Open => 1,
+            Status::Forged => 2,
+            Status::Worn => 3,
+            Status::Full => 4,
+        }
+    }
+}
 
-pub const WORN: u8 = 3;
+impl Status {
+    pub fn is_stopped(self) -> bool
+        ensures { result ≡ leb first_stopped (status_number self) }
+    {
+        matches!(self, Status::Forged | Status::Worn | Status::Full)
+    }
+}
 
-pub const FULL: u8 = 4;
+// A number that is no status's.
+#[derive(Clone, Copy, Debug, PartialEq, Eq)]
+pub struct NoStatus(pub u8);
 
-pub const FIRST_STOPPED: u8 = FORGED;
+impl TryFrom<u8> for Status {
+    type Error = NoStatus;
 
-pub const MOST_STATUS: u8 = FULL;
+    ghost try_from_gives = { NamesStatus };
 
-#[derive(Clone, Copy, Drop)]
+    fn try_from(x: u8) -> Result<Self, NoStatus> {
+        match x {
+            0 => Ok(Status::Ready),
+            1 => Ok(Status::Open),
+            2 => Ok(Status::Forged),
+            3 => Ok(Status::Worn),
+            4 => Ok(Status::Full),
+            _ => Err(NoStatus(x)),
+        }
+    }
+}
+
+#[derive(Clone, Copy, Debug, PartialEq, Eq)]
 pub enum Kind {
     Read,
     Write,
 }
 
-pub fn kind_number(k: Kind) -> u8
-    ensures { result ≡ kind_of k }
-{
-    match k {
-        Kind::Read => 0,
-        Kind::Write => 1,
+impl From<Kind> for u8 {
+    ghost from_gives = { λ k n. n ≡ kind_of k };
+
+    fn from(k: Kind) -> u8 {
+        match k {
+            Kind::Read => 0,
+            Kind::Write => 1,
+        }
     }
 }
 
 // The lengths on which a desk's layout depends: of body (b), of a record, and the numbers of ids and of stash slots.
-#[derive(Clone, Copy, Drop)]
+#[derive(Clone, Copy, Debug, PartialEq, Eq)]
 pub struct Shape {
     pub b: usize,
     pub r: usize,
@@ -211,7 +252,7 @@ fn head_good(desk: &[u8]) -> bool
 {
     sizes_of(desk).good()
         & ids_good(words::get16(desk, IDS) as usize)
-        & (desk[STATUS] <= MOST_STATUS)
+        & Status::try_from(desk[STATUS]).is_ok()
         & (desk[WRITTEN] <= 1)
         & (desk[ZERO] == 0)
 }
@@ -231,6 +272,14 @@ pub fn good(desk: &[u8]) -> bool
         return false;
     }
     contents_good(desk, h) & bodies::bodies_good(desk, sizes_of(desk).leaves(), h, desk[STATUS])
+}
+
+// The status of a good desk.
+pub fn status_of(desk: &[u8]) -> Status
+    requires { good_desk desk.now ≡ true }
+    ensures { status_number result ≡ status_of desk.now }
+{
+    Status::try_from(desk[STATUS]).unwrap()
 }
 
 // The position of an id.

@@ -7,7 +7,7 @@ ghost use Rattle.sizes.specs.Sizes.{d_len};
 ghost use Rattle.formats.specs.Format.{are_leaves, format_checked, new_shape, head_bytes, unmarked, formatted, format_of, format_result};
 ghost use Rattle.formats.specs.Fits.{Fits};
 
-use desk::Shape;
+use desk::{Shape, Status};
 use sizes::{Refusal, Sizes};
 
 // The shape of a new desk.
@@ -75,7 +75,7 @@ fn head_bytes(height: u8, slots: u8, stash: u8, ids: u16) -> [u8; desk::A_LEN]
         height,
         slots,
         stash,
-        desk::READY,
+        u8::from(Status::Ready),
         0,
         0,
         (ids % 256) as u8,

@@ -9,6 +9,7 @@ ghost use Rattle.placing.specs.Bank.{Inside, blocks_at};
 ghost use Rattle.placing.specs.Walk.{pick};
 ghost use Rattle.settling.specs.Settling.{Held};
 
+use desk::Status;
 use sizes::Sizes;
 
 // The id's position and mark.
@@ -52,7 +53,7 @@ pub fn close(desk: &mut [u8])
 {
     let h = desk::shape_of(desk);
     words::clear(desk, h.c_at(), desk::REQUEST_HEAD + h.r);
-    desk[desk::STATUS] = desk::READY;
+    desk[desk::STATUS] = u8::from(Status::Ready);
 }
 
 // All of it, for an accepted request.

@@ -17,6 +17,7 @@ ghost use Rattle.store.specs.Steps.{to_place, new_path, new_desk};
 ghost use Rattle.store.specs.Ready.{Ready};
 ghost use Rattle.store.specs.Laying.{Laid, Writable, Accepted};
 
+use desk::Status;
 use items::View;
 use placing::Counts;
 use sizes::{Refusal, Sizes};
@@ -39,11 +40,11 @@ fn entry_checked(desk: &[u8], path: &[u8], record: &[u8]) -> Result<(), Refusal>
     if !desk::good(desk) {
         return Err(Refusal::BadDesk);
     }
-    let status = desk[desk::STATUS];
-    if desk::FIRST_STOPPED <= status {
+    let status = desk::status_of(desk);
+    if status.is_stopped() {
         return Err(Refusal::Stopped);
     }
-    if status == desk::READY {
+    if status == Status::Ready {
         return Err(Refusal::NotOpen);
     }
     let s = desk::sizes_of(desk);
@@ -152,7 +153,7 @@ fn place(
     let rest = c.over;
     let room = desk[desk::ROOM] as usize;
     if room < rest {
-        desk[desk::STATUS] = desk::FULL;
+        desk[desk::STATUS] = u8::from(Status::Full);
         return Err(Refusal::Full);
     }
     request::hand_out(record, &kept, kind, marked);
@@ -175,12 +176,12 @@ fn finish_open(
     let o = opening::open_path(desk, path, v, &mut w);
     let good = o.good;
     if !good {
-        desk[desk::STATUS] = desk::FORGED;
+        desk[desk::STATUS] = u8::from(Status::Forged);
         return Err(Refusal::Forged);
     }
     let n = o.count;
     if opening::is_worn(path, v, n) {
-        desk[desk::STATUS] = desk::WORN;
+        desk[desk::STATUS] = u8::from(Status::Worn);
         return Err(Refusal::Worn);
     }
     place(desk, path, record, &mut w, v, n)

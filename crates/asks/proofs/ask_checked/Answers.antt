@@ -2,7 +2,10 @@
 use mathlib.Core.Path.{◌≡◌, sym, ap, ◌∙◌}
 use mathlib.Core.Bool.{true}
 use native.Mathlib.Omega.{arith}
-use borrow.Author.Tests.{eq-eqb, ne_eqb, le-leb, lt-leb}
+use lib.Dec.{leb, eqb}
+use borrow.Author.Tests.{le-leb, lt-leb}
+use Rattle.desk.specs.Status.{open_status, first_stopped}
+use Rattle.desk.proofs.Statuses.{is-open}
 use Rattle.sizes.specs.Sizes.{leaves}
 use Rattle.desk.specs.declared.Shape.{Shape}
 use Rattle.desk.specs.Layout.{ids_of, shape_of}
@@ -16,22 +19,20 @@ pub returns-then-not-good : goal.returns-then-not-good
 unfolding ask_checked
 returns-then-not-good c = rw (sym c.good.ensures ∙ c.if-not-good.true)
 
-pub bounds-desk-43 : goal.bounds-desk-43
-bounds-desk-43 c =
-    let good-at : good_desk c.args.desk.now ≡ true = sym c.good.ensures ∙ c.if-not-good.false in
-    omega (arith, (known _ good-at).size)
+pub status_of-status-requires : goal.status_of-status-requires
+status_of-status-requires c = sym c.good.ensures ∙ c.if-not-good.false
 
-pub returns-then-status-ge-FIRST_STOPPED : goal.returns-then-status-ge-FIRST_STOPPED
+pub returns-then-is_stopped : goal.returns-then-is_stopped
 unfolding ask_checked
-returns-then-status-ge-FIRST_STOPPED c =
+returns-then-is_stopped c =
     let good-at : good_desk c.args.desk.now ≡ true = sym c.good.ensures ∙ c.if-not-good.false in
-    rw (good-at, le-leb _ _ c.if-status-ge-FIRST_STOPPED.true)
+    rw (good-at, sym (c.is_stopped.ensures ∙ ap (leb first_stopped) c.status_of-status.ensures) ∙ c.if-is_stopped.true)
 
-pub returns-then-status-eq-OPEN : goal.returns-then-status-eq-OPEN
+pub returns-then-eq : goal.returns-then-eq
 unfolding ask_checked
-returns-then-status-eq-OPEN c =
+returns-then-eq c =
     let good-at : good_desk c.args.desk.now ≡ true = sym c.good.ensures ∙ c.if-not-good.false in
-    rw (good-at, lt-leb _ _ c.if-status-ge-FIRST_STOPPED.false, eq-eqb _ _ c.if-status-eq-OPEN.true)
+    rw (good-at, sym (c.is_stopped.ensures ∙ ap (leb first_stopped) c.status_of-status.ensures) ∙ c.if-is_stopped.false, sym (c.eq.ensures ∙ is-open _ ∙ ap (λ n. eqb n open_status) c.status_of-status.ensures) ∙ c.if-eq.true)
 
 pub shape_of-h-requires : goal.shape_of-h-requires
 shape_of-h-requires c =
@@ -43,7 +44,7 @@ unfolding ask_checked
 returns-then-not-within c =
     let good-at : good_desk c.args.desk.now ≡ true = sym c.good.ensures ∙ c.if-not-good.false in
     let ids_at : c.shape_of-h.result.n ≡ ids_of c.args.desk.now = ap (λ (h : Shape). h.n) c.shape_of-h.ensures in
-    rw (good-at, lt-leb _ _ c.if-status-ge-FIRST_STOPPED.false, ne_eqb _ _ c.if-status-eq-OPEN.false, ← ids_at, c.if-not-within.true)
+    rw (good-at, sym (c.is_stopped.ensures ∙ ap (leb first_stopped) c.status_of-status.ensures) ∙ c.if-is_stopped.false, sym (c.eq.ensures ∙ is-open _ ∙ ap (λ n. eqb n open_status) c.status_of-status.ensures) ∙ c.if-eq.false, ← ids_at, c.if-not-within.true)
 
 pub sizes_of-requires : goal.sizes_of-requires
 sizes_of-requires c =
@@ -61,7 +62,7 @@ returns-then-leaves-leaf c =
     let good-at : good_desk c.args.desk.now ≡ true = sym c.good.ensures ∙ c.if-not-good.false in
     let ids_at : c.shape_of-h.result.n ≡ ids_of c.args.desk.now = ap (λ (h : Shape). h.n) c.shape_of-h.ensures in
     let leaves_at : c.leaves.result ≡ leaves (sizes_of c.args.desk.now) = c.leaves.ensures.0 ∙ ap leaves c.sizes_of.ensures in
-    rw (good-at, lt-leb _ _ c.if-status-ge-FIRST_STOPPED.false, ne_eqb _ _ c.if-status-eq-OPEN.false, ← ids_at, c.if-not-within.false, ← leaves_at, le-leb _ _ c.if-leaves-leaf.true)
+    rw (good-at, sym (c.is_stopped.ensures ∙ ap (leb first_stopped) c.status_of-status.ensures) ∙ c.if-is_stopped.false, sym (c.eq.ensures ∙ is-open _ ∙ ap (λ n. eqb n open_status) c.status_of-status.ensures) ∙ c.if-eq.false, ← ids_at, c.if-not-within.false, ← leaves_at, le-leb _ _ c.if-leaves-leaf.true)
 
 pub returns-then-not-record_fits : goal.returns-then-not-record_fits
 unfolding ask_checked
@@ -72,8 +73,8 @@ returns-then-not-record_fits c =
     let fits-at : let a = c.args in c.record_fits.result ≡ record_fits (shape_of a.desk.now).r a.kind a.«record».now = let a = c.args in c.record_fits.ensures ∙ ap (λ (h : Shape). record_fits h.r a.kind a.«record».now) c.shape_of-h.ensures in
     rw (
       good-at,
-      lt-leb _ _ c.if-status-ge-FIRST_STOPPED.false,
-      ne_eqb _ _ c.if-status-eq-OPEN.false,
+      sym (c.is_stopped.ensures ∙ ap (leb first_stopped) c.status_of-status.ensures) ∙ c.if-is_stopped.false,
+      sym (c.eq.ensures ∙ is-open _ ∙ ap (λ n. eqb n open_status) c.status_of-status.ensures) ∙ c.if-eq.false,
       ← ids_at,
       c.if-not-within.false,
       ← leaves_at,
@@ -90,8 +91,8 @@ returns c =
     let fits-at : let a = c.args in c.record_fits.result ≡ record_fits (shape_of a.desk.now).r a.kind a.«record».now = let a = c.args in c.record_fits.ensures ∙ ap (λ (h : Shape). record_fits h.r a.kind a.«record».now) c.shape_of-h.ensures in
     rw (
       good-at,
-      lt-leb _ _ c.if-status-ge-FIRST_STOPPED.false,
-      ne_eqb _ _ c.if-status-eq-OPEN.false,
+      sym (c.is_stopped.ensures ∙ ap (leb first_stopped) c.status_of-status.ensures) ∙ c.if-is_stopped.false,
+      sym (c.eq.ensures ∙ is-open _ ∙ ap (λ n. eqb n open_status) c.status_of-status.ensures) ∙ c.if-eq.false,
       ← ids_at,
       c.if-not-within.false,
       ← leaves_at,

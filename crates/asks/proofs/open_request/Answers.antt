@@ -46,6 +46,7 @@ returns c =
     let record-length : c.shape_of-h.result.r ≡ (shape_of c.args.desk.now).r = ap (λ (h : Shape). h.r) c.shape_of-h.ensures in
     let w = c.requires.0.size in
     rw (
+      c.from.ensures,
       c.put_record.ensures,
       c.copy.ensures,
       c.request_head-head.ensures,

@@ -29,4 +29,4 @@ unfolding at_status with_request
 returns c =
     let start : c.c_at.result ≡ c_at (shape_of c.args.desk.now) = c.c_at.ensures ∙ ap c_at c.shape_of-h.ensures in
     let record-length : c.shape_of-h.result.r ≡ (shape_of c.args.desk.now).r = ap (λ (h : Shape). h.r) c.shape_of-h.ensures in
-    rw (c.clear.ensures, start, record-length)
+    rw (c.from.ensures, c.clear.ensures, start, record-length)
