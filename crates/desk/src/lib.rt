@@ -153,8 +153,8 @@ pub fn shape_of(desk: &[u8]) -> Shape
     Shape {
         b: B_LEN,
         r: Sizes::RECORD,
-        n: words::get16(desk, IDS) as usize,
-        s: words::wide(desk[ROOM]),
+        n: usize::from(words::get16(desk, IDS)),
+        s: usize::from(desk[ROOM]),
     }
 }
 
@@ -210,7 +210,7 @@ fn head_good(desk: &[u8]) -> bool
     ensures { result ≡ head_good desk.now }
 {
     sizes_of(desk).good()
-        & ids_good(words::get16(desk, IDS) as usize)
+        & ids_good(usize::from(words::get16(desk, IDS)))
         & (desk[STATUS] <= MOST_STATUS)
         & (desk[WRITTEN] <= 1)
         & (desk[ZERO] == 0)
