@@ -1,8 +1,7 @@
 -- `formats::head_bytes` meets its contract: the bytes of the definition, written out. Assumes nothing.
-use mathlib.Core.Path.{refl}
 use Rattle.words.specs.Numbers.{bytes_of}
 use Rattle.formats.proofs.head_bytes.Goals as goal
 
 pub returns : goal.returns
 unfolding bytes_of
-returns c = refl
+returns c = rw c.to_le_bytes.ensures
