@@ -51,13 +51,15 @@ fn ask_checked(desk: &[u8], kind: Kind, id: u16, leaf: u16, record: &[u8]) -> Re
 fn request_head(kind: Kind, id: u16, leaf: u16) -> [u8; desk::REQUEST_HEAD]
     ensures { result ≡ head_bytes kind id leaf }
 {
+    let [id_low, id_high] = id.to_le_bytes();
+    let [leaf_low, leaf_high] = leaf.to_le_bytes();
     [
         u8::from(kind),
         0,
-        (id % 256) as u8,
-        (id / 256 % 256) as u8,
-        (leaf % 256) as u8,
-        (leaf / 256 % 256) as u8,
+        id_low,
+        id_high,
+        leaf_low,
+        leaf_high,
         0,
         0,
     ]

@@ -16,8 +16,8 @@ fn open_good(c: &[u8], most: usize, n: usize) -> bool
     ensures { result ≡ open_good most n c.now }
 {
     let kind = c[super::KIND_IN];
-    let id = words::get16(c, super::ID_IN) as usize;
-    let leaf = words::get16(c, super::NEW_LEAF_IN) as usize;
+    let id = usize::from(words::get16(c, super::ID_IN));
+    let leaf = usize::from(words::get16(c, super::NEW_LEAF_IN));
     let zeros = words::get16(c, super::ZEROS_IN);
     let start = super::REQUEST_HEAD;
     (kind <= 1)
@@ -46,7 +46,7 @@ fn slot_good(d: &[u8], e: &[u8], h: Shape, i: usize, last: usize) -> bool
     ensures { result ≡ slot_after last h d.now e.now i }
 {
     let at = h.slot_at(i);
-    let id = words::get16(e, at) as usize;
+    let id = usize::from(words::get16(e, at));
     if id <= last {
         return false;
     }
@@ -64,13 +64,11 @@ fn slots_good(d: &[u8], e: &[u8], h: Shape, count: usize) -> bool
     ensures { result ≡ all count (slot_good h d.now e.now) }
 {
     let mut last = 0;
-    let mut i = 0;
-    while i < count {
+    for i in 0..count {
         if !slot_good(d, e, h, i, last) {
             return false;
         }
-        last = words::get16(e, h.slot_at(i)) as usize;
-        i += 1;
+        last = usize::from(words::get16(e, h.slot_at(i)));
     }
     true
 }
@@ -80,7 +78,7 @@ fn stash_good(d: &[u8], e: &[u8], h: Shape) -> bool
     requires { (d_len h.n ≤ length d.now) × ((length e.now ≡ e_len h) × Small h) }
     ensures { result ≡ stash_good h d.now e.now }
 {
-    let count = words::get16(e, 0) as usize;
+    let count = usize::from(words::get16(e, 0));
     if h.s < count {
         return false;
     }

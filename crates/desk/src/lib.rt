@@ -194,8 +194,8 @@ pub fn shape_of(desk: &[u8]) -> Shape
     Shape {
         b: B_LEN,
         r: Sizes::RECORD,
-        n: words::get16(desk, IDS) as usize,
-        s: words::wide(desk[ROOM]),
+        n: usize::from(words::get16(desk, IDS)),
+        s: usize::from(desk[ROOM]),
     }
 }
 
@@ -251,7 +251,7 @@ fn head_good(desk: &[u8]) -> bool
     ensures { result ≡ head_good desk.now }
 {
     sizes_of(desk).good()
-        & ids_good(words::get16(desk, IDS) as usize)
+        & ids_good(usize::from(words::get16(desk, IDS)))
         & Status::try_from(desk[STATUS]).is_ok()
         & (desk[WRITTEN] <= 1)
         & (desk[ZERO] == 0)

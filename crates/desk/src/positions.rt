@@ -17,7 +17,7 @@ fn place_good(d: &[u8], i: usize, most: usize) -> bool
     ensures { result ≡ place_good most d.now i }
 {
     let at = super::PLACE * i;
-    ((words::get16(d, at) as usize) < most) & (d[at + super::MARK_IN] <= 1)
+    (usize::from(words::get16(d, at)) < most) & (d[at + super::MARK_IN] <= 1)
 }
 
 // The highest place, with the last leaf and a mark, sixty-four times: so often that the compiler keeps the loop over them. That they are good places is
@@ -28,10 +28,8 @@ fn highest(most: usize) -> [u8; BYTES]
 {
     let last = (most - 1) as u16;
     let mut top = [0u8; BYTES];
-    let mut i = 0;
-    while i < TOGETHER {
+    for i in 0..TOGETHER {
         super::put_place(&mut top, super::PLACE * i, last, 1);
-        i += 1;
     }
     top
 }
@@ -42,10 +40,8 @@ fn none_above(d: &[u8], top: &[u8; BYTES]) -> bool
     ensures { result ≡ none_above d.now top.now }
 {
     let mut good = true;
-    let mut i = 0;
-    while i < BYTES {
-        good = good & (d[i] <= top[i]);
-        i += 1;
+    for (byte, most) in d.iter().zip(top) {
+        good &= byte <= most;
     }
     good
 }

@@ -17,8 +17,8 @@ fn new_shape(stash: u8, ids: u16) -> Shape
     Shape {
         b: desk::B_LEN,
         r: Sizes::RECORD,
-        n: ids as usize,
-        s: words::wide(stash),
+        n: usize::from(ids),
+        s: usize::from(stash),
     }
 }
 
@@ -26,15 +26,7 @@ fn new_shape(stash: u8, ids: u16) -> Shape
 fn are_leaves(leaves: &[u16], most: usize) -> bool
     ensures { result ≡ are_leaves most leaves.now }
 {
-    let mut i = 0;
-    while i < leaves.len() {
-        let leaf = leaves[i] as usize;
-        if most <= leaf {
-            return false;
-        }
-        i += 1;
-    }
-    true
+    leaves.iter().all(|leaf| usize::from(*leaf) < most)
 }
 
 // The refusals of format, in order.
@@ -71,16 +63,8 @@ fn format_checked(
 fn head_bytes(height: u8, slots: u8, stash: u8, ids: u16) -> [u8; desk::A_LEN]
     ensures { result ≡ head_bytes height slots stash ids }
 {
-    [
-        height,
-        slots,
-        stash,
-        u8::from(Status::Ready),
-        0,
-        0,
-        (ids % 256) as u8,
-        (ids / 256 % 256) as u8,
-    ]
+    let [low, high] = ids.to_le_bytes();
+    [height, slots, stash, u8::from(Status::Ready), 0, 0, low, high]
 }
 
 // Body (d) of a new desk, at `at`.
@@ -88,10 +72,8 @@ fn put_places(dst: &mut [u8], at: usize, leaves: &[u16])
     requires { at + d_len (length leaves.now) ≤ length dst.old }
     ensures { dst.new ≡ splice dst.old at (unmarked leaves.now) }
 {
-    let mut i = 0;
-    while i < leaves.len() {
-        desk::put_place(dst, at + desk::PLACE * i, leaves[i], 0);
-        i += 1;
+    for (i, leaf) in leaves.iter().enumerate() {
+        desk::put_place(dst, at + desk::PLACE * i, *leaf, 0);
     }
 }
 

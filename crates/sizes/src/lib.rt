@@ -89,8 +89,8 @@ impl Sizes {
         ensures { result ≡ spec.sized height slots }
     {
         Sizes {
-            height: words::wide(height),
-            slots: words::wide(slots),
+            height: usize::from(height),
+            slots: usize::from(slots),
         }
     }
 
@@ -124,7 +124,7 @@ impl Sizes {
         requires { spec.InRange self }
         ensures { result ≡ spec.inner_len self }
     {
-        Self::HEADER + Self::SLOT * self.slots
+        self.leaf_len() + Self::FLAGS + 2 * Self::DIGEST
     }
 
     // The length of the item at level `k`.

@@ -31,12 +31,10 @@ fn copy_out(tree: &[u8], s: Sizes, leaf: usize, path: &mut [u8])
     ensures { path.new ≡ fetched s leaf tree.now (suc s.height) }
 {
     let items = s.height + 1;
-    let mut k = 0;
-    while k < items {
+    for k in 0..items {
         let from = s.in_tree(leaf, k);
         let to = from + s.item_len(k);
         words::copy(path, s.item_at(k), &tree[from..to]);
-        k += 1;
     }
 }
 
@@ -46,12 +44,10 @@ fn copy_in(tree: &mut [u8], s: Sizes, leaf: usize, path: &[u8])
     ensures { tree.new ≡ put_back s leaf path.now tree.old (suc s.height) }
 {
     let end = s.height + 1;
-    let mut k = 0;
-    while k < end {
+    for k in 0..end {
         let from = s.item_at(k);
         let to = from + s.item_len(k);
         words::copy(tree, s.in_tree(leaf, k), &path[from..to]);
-        k += 1;
     }
 }
 

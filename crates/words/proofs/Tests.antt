@@ -1,6 +1,6 @@
 -- The laws of tests: of every number below n, of a list of tests, of zeros, and of two lists compared. Assumes nothing.
 use Prim.Native.Nat.{ℕ, zero, suc, ◌+◌, ◌<◌, ◌≤◌}
-use mathlib.Core.Path.{◌≡◌, refl, ap}
+use mathlib.Core.Path.{◌≡◌, refl, sym, ap, ◌∙◌}
 use mathlib.Core.Bool.{Bool, true, false, ◌&&◌, and-false}
 use mathlib.Core.Logic.{⊎_elim}
 use native.Mathlib.Nat.{le_antisymm, eq-or-lt_of_le, le_of_suc-le-suc}
@@ -84,6 +84,11 @@ pub all_true : (p : ℕ → Bool) (n : ℕ) → ((i : ℕ) → i < n → p i ≡
 unfolding all
 all_true p zero h = refl
 all_true p (suc n) h = rw (all_true p n (λ i l. h i (omega arith)), h n (omega arith))
+
+-- a test that is true just where every number below n passes
+pub all_just : (p : ℕ → Bool) (n : ℕ) (b : Bool) → (b ≡ true → (i : ℕ) → i < n → p i ≡ true) → (((i : ℕ) → i < n → p i ≡ true) → b ≡ true) → b ≡ all n p
+all_just p n true f g = sym (all_true p n (f refl))
+all_just p n false f g = by_cases (all n p) (λ e. g (λ i l. all-at p n i l e) ∙ sym e) (λ e. sym e)
 
 -- two tests that agree below n
 pub all-ext : (p q : ℕ → Bool) (n : ℕ) → ((i : ℕ) → i < n → p i ≡ q i) → all n p ≡ all n q

@@ -6,4 +6,4 @@ use Rattle.desk.proofs.head_good.Goals as goal
 
 pub returns : goal.returns
 unfolding head_good
-returns c = rw (c.good.ensures, c.sizes_of.ensures, c.ids_good.ensures, c.get16.ensures, c.is_ok.ensures.value ∙ names-ok _ _ c.try_from.ensures)
+returns c = rw (c.good.ensures, c.sizes_of.ensures, c.ids_good.ensures, c.from.ensures, c.get16.ensures, c.is_ok.ensures.value ∙ names-ok _ _ c.try_from.ensures)

@@ -10,18 +10,15 @@ use Rattle.tree.proofs.copy_in.Goals as goal
 
 pub loop-k-init : goal.loop-k-init
 unfolding put_back
-loop-k-init c = ((omega arith, refl), (refl, refl))
+loop-k-init c = (refl, refl)
 
 pub loop-k-preserved : goal.loop-k-preserved
 loop-k-preserved c =
     let l = c.loop-k in
     let a = c.args in (
       search rules,
-      (
-        search rules,
-        put-turn a.s a.leaf a.path.now a.tree.now l.tree c.copy.new.dst l.k c.in_tree.result c.item_at-from.result c.item_len.result
-            c.in_tree.ensures.is c.item_at-from.ensures.is c.item_len.ensures l.invariant.1.1 c.copy.ensures,
-      ),
+      put-turn a.s a.leaf a.path.now a.tree.now l.tree c.copy.new.dst l.k c.in_tree.result c.item_at-from.result c.item_len.result
+          c.in_tree.ensures.is c.item_at-from.ensures.is c.item_len.ensures l.invariant.1 c.copy.ensures,
     )
 
 pub returns : goal.returns
@@ -29,4 +26,4 @@ returns c =
     let l = c.loop-k in
     let a = c.args in
     let e : l.k ≡ a.s.height + 1 = omega arith in
-    l.invariant.1.1 ∙ ap (λ (k : ℕ). put_back a.s a.leaf a.path.now a.tree.now k) e ∙ rw add-one
+    l.invariant.1 ∙ ap (λ (k : ℕ). put_back a.s a.leaf a.path.now a.tree.now k) e ∙ rw add-one

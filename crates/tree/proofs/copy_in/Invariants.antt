@@ -1,12 +1,8 @@
 -- `tree::copy_in` meets its contract: after k turns the tree is that with the first k items put back. Assumes nothing.
-use Prim.Native.Nat.{◌+◌, ◌-◌, ◌≤◌}
 use mathlib.Core.Path.{◌≡◌}
 use lib.ListN.{length}
 use Rattle.tree.specs.Tree.{put_back}
 use Rattle.tree.proofs.copy_in.Given as goal
 
 abbrev pub invariant-loop-k : goal.invariant-loop-k
-invariant-loop-k l = ((l.k ≤ l.end) × (l.end ≡ l.s.height + 1)) × ((length l.tree ≡ length l.initial.tree) × (l.tree ≡ put_back l.s l.leaf l.path l.initial.tree l.k))
-
-abbrev pub decreases-loop-k : goal.decreases-loop-k
-decreases-loop-k l = l.end - l.k
+invariant-loop-k l = (length l.tree ≡ length l.initial.tree) × (l.tree ≡ put_back l.s l.leaf l.path l.initial.tree l.k)

@@ -1,5 +1,4 @@
 -- `tree::copy_out` meets its contract: after k turns the first k items stand at the path's beginning. Assumes nothing.
-use Prim.Native.Nat.{◌+◌, ◌-◌, ◌≤◌}
 use mathlib.Core.Path.{◌≡◌}
 use lib.ListN.{length}
 use Rattle.words.specs.Bytes.{splice}
@@ -7,7 +6,4 @@ use Rattle.tree.specs.Tree.{fetched}
 use Rattle.tree.proofs.copy_out.Given as goal
 
 abbrev pub invariant-loop-k : goal.invariant-loop-k
-invariant-loop-k l = ((l.k ≤ l.items) × (l.items ≡ l.s.height + 1)) × ((length l.path ≡ length l.initial.path) × (l.path ≡ splice l.initial.path 0 (fetched l.s l.leaf l.tree l.k)))
-
-abbrev pub decreases-loop-k : goal.decreases-loop-k
-decreases-loop-k l = l.items - l.k
+invariant-loop-k l = (length l.path ≡ length l.initial.path) × (l.path ≡ splice l.initial.path 0 (fetched l.s l.leaf l.tree l.k))

@@ -5,13 +5,13 @@ use Rattle.desk.proofs.bodies.slot_good.Goals as goal
 
 pub returns-then-id-last : goal.returns-then-id-last
 unfolding slot_after
-returns-then-id-last c = rw (← c.slot_at-at.ensures, ← c.get16-id.ensures, le-ltb _ _ c.if-id-last.true)
+returns-then-id-last c = rw (← c.slot_at-at.ensures, ← c.get16.ensures, ← c.from-id.ensures, le-ltb _ _ c.if-id-last.true)
 
 pub returns-then-h-id : goal.returns-then-h-id
 unfolding slot_after
-returns-then-h-id c = rw (← c.slot_at-at.ensures, ← c.get16-id.ensures, lt-ltb _ _ c.if-id-last.false, lt-leb _ _ c.if-h-id.true)
+returns-then-h-id c = rw (← c.slot_at-at.ensures, ← c.get16.ensures, ← c.from-id.ensures, lt-ltb _ _ c.if-id-last.false, lt-leb _ _ c.if-h-id.true)
 
 pub returns : goal.returns
 unfolding slot_after
 returns c =
-    rw (c.get16.ensures, c.get16-2.ensures, ← c.slot_at-at.ensures, ← c.get16-id.ensures, lt-ltb _ _ c.if-id-last.false, le-leb _ _ c.if-h-id.false)
+    rw (c.get16-2.ensures, c.get16-3.ensures, ← c.slot_at-at.ensures, ← c.get16.ensures, ← c.from-id.ensures, lt-ltb _ _ c.if-id-last.false, le-leb _ _ c.if-h-id.false)

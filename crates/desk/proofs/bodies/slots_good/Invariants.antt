@@ -1,5 +1,4 @@
 -- `desk::bodies::slots_good` meets its contract: the first i slots are good, and `last` is the id of the last of them. Assumes nothing.
-use Prim.Native.Nat.{◌≤◌, ◌-◌}
 use mathlib.Core.Path.{◌≡◌}
 use mathlib.Core.Bool.{true}
 use Rattle.words.specs.Tests.{all}
@@ -7,7 +6,4 @@ use Rattle.desk.specs.Good.{id_before, slot_good}
 use Rattle.desk.proofs.bodies.slots_good.Given as goal
 
 abbrev pub invariant-loop-i : goal.invariant-loop-i
-invariant-loop-i l = (l.i ≤ l.count) × ((l.last ≡ id_before l.h l.e l.i) × (all l.i (slot_good l.h l.d l.e) ≡ true))
-
-abbrev pub decreases-loop-i : goal.decreases-loop-i
-decreases-loop-i l = l.count - l.i
+invariant-loop-i l = (l.last ≡ id_before l.h l.e l.i) × (all l.i (slot_good l.h l.d l.e) ≡ true)

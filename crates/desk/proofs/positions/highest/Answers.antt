@@ -15,7 +15,7 @@ use Rattle.desk.proofs.Together.{zeros-good}
 use Rattle.desk.proofs.positions.highest.Goals as goal
 
 pub loop-i-init : goal.loop-i-init
-loop-i-init c = (search rules, (search rules, zeros-good _ (search rules)))
+loop-i-init c = (search rules, zeros-good _ (search rules))
 
 pub loop-i-preserved : goal.loop-i-preserved
 loop-i-preserved c =
@@ -24,7 +24,7 @@ loop-i-preserved c =
     let i = l.i in
     let e : place_at (suc i) ≡ place_len * i = omega arith in
     let g =
-    place-good l.top together (suc i) (most - 1) 1 (omega (arith, l.invariant.1.0)) (omega arith) (omega (arith, c.loop-i-test.true)) most
-    (search rules) (search rules) (omega arith) l.invariant.1.1 in
+    place-good l.top together (suc i) (most - 1) 1 (omega (arith, l.invariant.0)) (omega arith) (omega (arith, c.loop-i-test.true)) most
+    (search rules) (search rules) (omega arith) l.invariant.1 in
     let p = c.put_place.ensures ∙ ap (λ (a : ℕ). splice l.top a (bytes_of 2 (most - 1) ++ (1 ∷ []))) (sym e) in
-    (search rules, (c.put_place.auto.dst ∙ l.invariant.1.0, ap (places_good most together) p ∙ g))
+    (c.put_place.auto.dst ∙ l.invariant.0, ap (places_good most together) p ∙ g)

@@ -1,5 +1,4 @@
 -- `desk::positions::highest` meets its contract: zeros are good places, and each put keeps them good. Assumes nothing.
-use Prim.Native.Nat.{◌≤◌, ◌-◌}
 use mathlib.Core.Path.{◌≡◌}
 use mathlib.Core.Bool.{true}
 use lib.ListN.{length}
@@ -8,7 +7,4 @@ use Rattle.desk.specs.Together.{together, together_len}
 use Rattle.desk.proofs.positions.highest.Given as goal
 
 abbrev pub invariant-loop-i : goal.invariant-loop-i
-invariant-loop-i l = (l.i ≤ together) × ((length l.top ≡ together_len) × (places_good l.most together l.top ≡ true))
-
-abbrev pub decreases-loop-i : goal.decreases-loop-i
-decreases-loop-i l = together - l.i
+invariant-loop-i l = (length l.top ≡ together_len) × (places_good l.most together l.top ≡ true)
