@@ -2,9 +2,9 @@
 use Rattle.std.proofs.Common.{◌≡◌, ℕ, zero, suc, ◌+◌, ◌-◌, ◌*◌, ◌/◌, ◌%◌, ◌^◌, ◌<◌, ◌≤◌, List, [], ◌∷◌, ◌++◌, length, take, drop, sym, refl, ap, ◌∙◌, append_assoc, append-nil, le_of_suc-le-suc, not-suc-le-zero, arith, drop_of_length-le, length-take, length-take-le, take_all, drop-drop, take_at, take-add, drop_at}
 use lib.Bits.{bit_xor, differ, xor_step, xor_self, xor_zero_l}
 use lib.Arith.{bin_ind}
-use Rattle.chacha20.specs.ChaCha.{add32, zipped, block, blocks, cipher}
+use Rattle.chacha20.specs.ChaCha.{zipped, block, blocks, cipher}
 use Rattle.chacha20.proofs.Zipped.{length-zipped, zipped-enough, take-zipped, drop-zipped}
-use Rattle.chacha20.proofs.Blocks.{length-block, length-blocks, blocks-wrap, blocks-add, blocks-one, blocks_from}
+use Rattle.chacha20.proofs.Blocks.{length-block, length-blocks, blocks-add, blocks-drop, blocks_from}
 
 -- ---- what a caller needs: the length stays, and twice is nothing
 
@@ -102,27 +102,20 @@ unfolding cipher
 cipher-end key nonce xs at h =
     mixed-all xs (blocks key nonce 0 (length xs / 64 + 1)) at h (omega (arith, length-blocks key nonce 0 (length xs / 64 + 1)))
 
--- ---- two blocks, one after the other
+-- ---- one block of a few, from block n on
 
-module _ (key nonce xs : List ℕ) (n : ℕ) (small : n < 2 ^ 32) where
-  pub one-mixed : length xs ≤ 64 → zipped bit_xor xs (block key nonce n) ≡ zipped bit_xor xs (blocks key nonce n 2)
-  one-mixed h = rw (← blocks-one key nonce n small) (sym (mix-enough key nonce xs n 1 1 h))
-
-  pub two-mixed : (ys zs : List ℕ) (m : ℕ) → 64 < length xs → length xs ≤ 128 → 64 + m ≡ length xs
-      → ys ≡ zipped bit_xor (take 64 xs) (block key nonce n) → zs ≡ zipped bit_xor (take m (drop 64 (ys ++ drop 64 xs))) (block key nonce (add32 n 1))
-      → take 64 (ys ++ drop 64 xs) ++ (zs ++ drop m (drop 64 (ys ++ drop 64 xs))) ≡ zipped bit_xor xs (blocks key nonce n 2)
-  unfolding add32
-  two-mixed ys zs m long short end now-ys now-zs =
-      let i = (n + 1) % 2 ^ 32 in
-      let b = block key nonce n in
-      let d = block key nonce i in
-      let ks = blocks key nonce n 2 in
-      let l : length ks ≡ 128 = length-blocks key nonce n 2 in
-      let lb : length b ≡ 64 = length-block key nonce n in
-      let ld : length d ≡ 64 = length-block key nonce i in
-      let e : blocks key nonce (n + 1) 1 ≡ d = blocks-wrap key nonce (n + 1) i 1 (omega arith) ∙ blocks-one key nonce i (omega arith) in
-      let f : ks ≡ b ++ d = blocks-add key nonce n 1 1 ∙ rw (blocks-one key nonce n small, e) in
-      let g : drop 64 ks ≡ d ++ [] = rw f (drop_at b d 64 lb) ∙ sym (append-nil d) in
-      mixed-step xs ks (ys ++ drop 64 xs) zs d [] 64 m (length xs) end (omega arith) (omega arith) (omega arith) g
-      (mixed-step xs ks xs ys b d 0 64 64 refl (omega arith) (omega arith) (omega arith) f refl now-ys) now-zs
-      ∙ mixed-all xs ks (length xs) (omega arith) (omega arith)
+pub block-step : (key nonce xs now ys : List ℕ) (at m e n i : ℕ) → at + m ≡ e → e ≤ length xs → length xs ≤ 128 → m ≤ 64 → at % 64 ≡ 0 → at < length xs
+    → i ≡ (n + at / 64) % 2 ^ 32 → now ≡ mixed xs (blocks key nonce n 5) at → ys ≡ zipped bit_xor (take m (drop at now)) (block key nonce i)
+    → take at now ++ (ys ++ drop m (drop at now)) ≡ mixed xs (blocks key nonce n 5) e
+unfolding blocks
+block-step key nonce xs now ys at m e n i end fits short small whole before number so now-ys =
+    let b = at / 64 in
+    let d = 4 - b in
+    let ks = blocks key nonce n 5 in
+    let f : 5 ≡ b + suc d = omega arith in
+    let g : at ≡ b * 64 = omega arith in
+    let from : drop at ks ≡ block key nonce i ++ blocks key nonce (suc (n + b)) d =
+    ap (λ (c : ℕ). drop at (blocks key nonce n c)) f ∙ ap (λ (j : ℕ). drop j (blocks key nonce n (b + suc d))) g
+    ∙ blocks-drop key nonce n b (suc d) ∙ ap (λ (j : ℕ). block key nonce j ++ blocks key nonce (suc (n + b)) d) (sym number) in
+    mixed-step xs ks now ys (block key nonce i) (blocks key nonce (suc (n + b)) d) at m e end fits (omega (arith, length-blocks key nonce n 5))
+    (omega (arith, length-block key nonce i)) from so now-ys

@@ -1,3 +1,5 @@
+pub mod Made
+pub mod Rotated
 pub mod Front
 pub mod Zipped
 pub mod Table

@@ -1,11 +1,11 @@
 -- The laws of `serialize`: its length, words one after another, and the loop that writes the words of a table. Assumes nothing.
-use Rattle.std.proofs.Common.{◌≡◌, ℕ, suc, ◌+◌, ◌*◌, ◌<◌, ◌≤◌, List, [], ◌∷◌, ◌++◌, length, get_or, sym, refl, ap, ◌∙◌, append_assoc, append-nil, mul-le-mul_right, add-one, arith, length-append}
+use Rattle.std.proofs.Common.{◌≡◌, ℕ, zero, suc, ◌+◌, ◌*◌, ◌<◌, ◌≤◌, List, [], ◌∷◌, ◌++◌, length, get_or, sym, refl, ap, ◌∙◌, append_assoc, append-nil, zero-add, mul-le-mul_right, add-one, arith, length-append}
 use Rattle.words.specs.Bytes.{splice}
 use Rattle.words.specs.Numbers.{bytes_of}
-use Rattle.words.proofs.Splice.{splice-next, splice-whole}
+use Rattle.words.proofs.Splice.{splice-nil, splice-next, splice-whole}
 use Rattle.words.proofs.Numbers.{length-bytes_of}
 use Rattle.chacha20.specs.ChaCha.{serialize}
-use Rattle.chacha20.specs.Lanes.{table, lane}
+use Rattle.chacha20.specs.Lanes.{table, lane, bytes_of_five}
 use Rattle.chacha20.proofs.Table.{length-table, table-ext, table-get_d, table_more}
 
 pub length-serialize : (s : List ℕ) → length (serialize s) ≡ length s * 4
@@ -41,20 +41,37 @@ serial-turn f w at old now h e =
     ap (λ (x : List ℕ). splice x (at + w * 4) (bytes_of 4 (f w))) e
     ∙ splice-next old at (serialize (table w f)) (bytes_of 4 (f w)) (w * 4) l h ∙ rw (add-one, m)
 
--- five blocks laid one after another into as much room
-pub five-laid : (z a b c d e o p q r s : List ℕ) → length z ≡ 320 → length a ≡ 64 → length b ≡ 64 → length c ≡ 64 → length d ≡ 64 → length e ≡ 64
-    → o ≡ splice z 0 a → p ≡ splice o 64 b → q ≡ splice p 128 c → r ≡ splice q 192 d → s ≡ splice r 256 e → s ≡ a ++ (b ++ (c ++ (d ++ e)))
-five-laid z a b c d e o p q r s lz la lb lc ld le eo ep eq er es =
-    let l2 : length (a ++ b) ≡ 128 = length-append a b ∙ omega arith in
-    let l3 : length ((a ++ b) ++ c) ≡ 192 = length-append (a ++ b) c ∙ omega arith in
-    let l4 : length (((a ++ b) ++ c) ++ d) ≡ 256 = length-append ((a ++ b) ++ c) d ∙ omega arith in
-    let l5 : length ((((a ++ b) ++ c) ++ d) ++ e) ≡ length z = length-append (((a ++ b) ++ c) ++ d) e ∙ omega arith in
-    let e2 : p ≡ splice z 0 (a ++ b) = ep ∙ ap (λ (x : List ℕ). splice x 64 b) eo ∙ splice-next z 0 a b 64 la (omega arith) in
-    let e3 : q ≡ splice z 0 ((a ++ b) ++ c) = eq ∙ ap (λ (x : List ℕ). splice x 128 c) e2 ∙ splice-next z 0 (a ++ b) c 128 l2 (omega arith) in
-    let e4 : r ≡ splice z 0 (((a ++ b) ++ c) ++ d) = er ∙ ap (λ (x : List ℕ). splice x 192 d) e3 ∙ splice-next z 0 ((a ++ b) ++ c) d 192 l3 (omega arith) in
-    let e5 : s ≡ splice z 0 ((((a ++ b) ++ c) ++ d) ++ e) =
-    es ∙ ap (λ (x : List ℕ). splice x 256 e) e4 ∙ splice-next z 0 (((a ++ b) ++ c) ++ d) e 256 l4 (omega arith) in
-    e5 ∙ splice-whole z ((((a ++ b) ++ c) ++ d) ++ e) l5 ∙ simp append_assoc
+-- the bytes of the first k of four blocks side by side, and one more laid behind them
+pub laid : ℕ → List ℕ → List ℕ
+laid zero u = []
+laid (suc k) u = laid k u ++ serialize (lane 4 k u)
+
+length-laid : (k : ℕ) (u : List ℕ) → length (laid k u) ≡ 64 * k
+unfolding laid
+length-laid zero u = refl
+length-laid (suc k) u = length-append (laid k u) (serialize (lane 4 k u)) ∙ rw (length-laid k u, length-lane 4 k u) (omega arith)
+
+pub laid-none : (z u : List ℕ) → z ≡ splice z 0 (laid 0 u)
+unfolding laid
+laid-none z u = sym (splice-nil z 0)
+
+pub laid-turn : (k : ℕ) (u z now : List ℕ) → 64 * k + 64 ≤ length z → now ≡ splice z 0 (laid k u)
+    → splice now (64 * k) (serialize (lane 4 k u)) ≡ splice z 0 (laid (k + 1) u)
+unfolding laid
+laid-turn k u z now h e =
+    ap (λ (x : List ℕ). splice x (64 * k) (serialize (lane 4 k u))) e
+    ∙ rw add-one (rw zero-add at (splice-next z 0 (laid k u) (serialize (lane 4 k u)) (64 * k) (length-laid k u) (omega (arith, length-lane 4 k u))))
+
+-- and one beside them, into as much room
+pub five-laid : (u p z now r : List ℕ) → length z ≡ 320 → now ≡ splice z 0 (laid 4 u) → r ≡ splice now 256 (serialize (lane 1 0 p)) → r ≡ bytes_of_five u p
+unfolding laid bytes_of_five
+five-laid u p z now r l e f =
+    let four = laid 4 u in
+    let one = serialize (lane 1 0 p) in
+    let n : length four ≡ 256 = length-laid 4 u in
+    let m : length one ≡ 64 = length-lane 1 0 p in
+    f ∙ ap (λ (x : List ℕ). splice x 256 one) e ∙ splice-next z 0 four one 256 n (omega arith)
+    ∙ splice-whole z (four ++ one) (length-append four one ∙ omega arith) ∙ simp append_assoc
 
 -- one block laid into as much room
 pub one-laid : (z s o : List ℕ) → length z ≡ 64 → length s ≡ 16 → o ≡ splice z 0 (serialize (lane 1 0 s)) → o ≡ serialize s

@@ -9,29 +9,15 @@ use crate::{BLOCK, Quad, WORDS};
 // Column and diagonal rounds, ten of each.
 pub const BOTH: usize = 10;
 
-// a + b modulo 2^32.
-pub fn add(a: u32, b: u32) -> u32
-    ensures { result ≡ spec.add32 a b }
-{
-    std::num::wrapping_add_u32(a, b)
-}
-
-// x rotated left by k bits.
-fn rotl(x: u32, k: u32) -> u32
-    requires { (0 < k) × (k < 32) }
-    ensures { result ≡ spec.rotl x k }
-{
-    (x << k) | (x >> (32 - k))
-}
-
+// Half of a quarter round: RFC 8439's + is `wrapping_add`, its <<< `rotate_left`.
 fn half(q: Quad, j: u32, k: u32) -> Quad
     requires { ((0 < j) × (j < 32)) × ((0 < k) × (k < 32)) }
     ensures { result ≡ spec.half q j k }
 {
-    let a = add(q.a, q.b);
-    let d = rotl(q.d ^ a, j);
-    let c = add(q.c, d);
-    let b = rotl(q.b ^ c, k);
+    let a = q.a.wrapping_add(q.b);
+    let d = (q.d ^ a).rotate_left(j);
+    let c = q.c.wrapping_add(d);
+    let b = (q.b ^ c).rotate_left(k);
     Quad { a, b, c, d }
 }
 
@@ -57,6 +43,7 @@ pub fn quarter_at(s: &mut [u32], a: usize, b: usize, c: usize, d: usize)
     s[d] = q.d;
 }
 
+// As the RFC writes them, one by one: a loop over i would have to compute places such as 4 + (i + 1) % 4.
 fn columns(s: &mut [u32; WORDS])
     ensures { s.new ≡ spec.columns s.old }
 {
@@ -85,7 +72,7 @@ pub fn inner(s: &mut [u32; WORDS])
 fn rounds(s: &mut [u32; WORDS])
     ensures { s.new ≡ spec.rounds 10 s.old }
 {
-    for n in 0..BOTH {
+    for _ in 0..BOTH {
         inner(s);
     }
 }
@@ -118,10 +105,8 @@ pub fn sums(s: &mut [u32], t: &[u32])
     requires { length s.old ≤ length t.now }
     ensures { s.new ≡ spec.zipped spec.add32 s.old t.now }
 {
-    let mut i = 0;
-    while i < s.len() {
-        s[i] = add(s[i], t[i]);
-        i += 1;
+    for (i, x) in s.iter_mut().enumerate() {
+        *x = x.wrapping_add(t[i]);
     }
 }
 

@@ -5,6 +5,7 @@ ghost use Rattle.chacha20.specs.ChaCha.{rounds, blocks};
 ghost use Rattle.chacha20.specs.Lanes as spec;
 
 use crate::{BLOCK, FIVE, WORDS, block};
+use std::array;
 
 // How many words four states have, and how many states; where their second, third and fourth rows begin; and one, two and three columns of a row.
 const WIDE: usize = 64;
@@ -65,7 +66,7 @@ fn inner_four(s: &mut [u32; WIDE])
 fn rounds_five(s: &mut [u32; WIDE], o: &mut [u32; WORDS])
     ensures { (s.new ≡ spec.rounds_four 10 s.old) × (o.new ≡ rounds 10 o.old) }
 {
-    for n in 0..block::BOTH {
+    for _ in 0..block::BOTH {
         inner_four(s);
         block::inner(o);
     }
@@ -75,11 +76,7 @@ fn rounds_five(s: &mut [u32; WIDE], o: &mut [u32; WORDS])
 fn spread(s: &[u32; WORDS]) -> [u32; WIDE]
     ensures { result ≡ spec.spread s.now }
 {
-    let mut t = [0u32; WIDE];
-    for i in 0..WIDE {
-        t[i] = s[i / LANES];
-    }
-    t
+    array::from_fn(|i| s[i / LANES])
 }
 
 // The block counter is word 12: the second block has it at 49, the third at 50, the fourth at 51.
@@ -88,9 +85,9 @@ fn initial_four(key: &[u8; 32], nonce: &[u8; 12], n: u32) -> [u32; WIDE]
 {
     let s = block::initial(key, nonce, n);
     let mut t = spread(&s);
-    t[49] = block::add(n, 1);
-    t[50] = block::add(n, 2);
-    t[51] = block::add(n, 3);
+    t[49] = n.wrapping_add(1);
+    t[50] = n.wrapping_add(2);
+    t[51] = n.wrapping_add(3);
     t
 }
 
@@ -98,11 +95,10 @@ fn bytes_of_five(u: &[u32; WIDE], p: &[u32; WORDS]) -> [u8; FIVE]
     ensures { result ≡ spec.bytes_of_five u.now p.now }
 {
     let mut out = [0u8; FIVE];
-    block::serialize(&mut out, 0, u, 0, LANES);
-    block::serialize(&mut out, BLOCK, u, 1, LANES);
-    block::serialize(&mut out, 128, u, 2, LANES);
-    block::serialize(&mut out, 192, u, 3, LANES);
-    block::serialize(&mut out, 256, p, 0, 1);
+    for k in 0..LANES {
+        block::serialize(&mut out, BLOCK * k, u, k, LANES);
+    }
+    block::serialize(&mut out, BLOCK * LANES, p, 0, 1);
     out
 }
 
@@ -110,7 +106,7 @@ pub fn five(key: &[u8; 32], nonce: &[u8; 12], n: u32) -> [u8; FIVE]
     ensures { result ≡ blocks key.now nonce.now n 5 }
 {
     let t = initial_four(key, nonce, n);
-    let o = block::initial(key, nonce, block::add(n, 4));
+    let o = block::initial(key, nonce, n.wrapping_add(4));
     let mut u = t;
     let mut p = o;
     rounds_five(&mut u, &mut p);

@@ -27,72 +27,44 @@ struct Quad {
     d: u32,
 }
 
-// The bytes of `part`, each combined with the one of `ks` at its place.
+// The bytes of `part`, each combined with the one of `ks` at its place. By places: of what a zip with `iter_mut` leaves a proof knows the length
+// alone. And not one function with `block::sums`, which adds words: that would be this loop again, and a closure for each.
 fn mix(part: &mut [u8], ks: &[u8])
     requires { length part.old ≤ length ks.now }
     ensures { part.new ≡ spec.zipped bit_xor part.old ks.now }
 {
-    let mut i = 0;
-    while i < part.len() {
-        part[i] = part[i] ^ ks[i];
-        i += 1;
+    for (i, x) in part.iter_mut().enumerate() {
+        *x ^= ks[i];
     }
 }
 
-// At most a block of bytes combined with block n.
-fn mix_block(key: &[u8; 32], nonce: &[u8; 12], n: u32, part: &mut [u8])
-    requires { length part.old ≤ 64 }
-    ensures { part.new ≡ spec.zipped bit_xor part.old (spec.block key.now nonce.now n) }
-{
-    let ks = block::block(key, nonce, n);
-    mix(part, &ks);
-}
-
-// At most five, from block n on.
-fn mix_five(key: &[u8; 32], nonce: &[u8; 12], n: u32, part: &mut [u8])
+// The bytes of `part`, at most five blocks, combined with the blocks from n on: with five at once, or one by one where there are at most
+// two, since five at once would cost more.
+fn mix_blocks(key: &[u8; 32], nonce: &[u8; 12], n: u32, part: &mut [u8])
     requires { length part.old ≤ 320 }
     ensures { part.new ≡ spec.zipped bit_xor part.old (spec.blocks key.now nonce.now n 5) }
 {
-    let ks = five::five(key, nonce, n);
-    mix(part, &ks);
-}
-
-// At most two: five at once would cost more.
-fn mix_two(key: &[u8; 32], nonce: &[u8; 12], n: u32, part: &mut [u8])
-    requires { length part.old ≤ 128 }
-    ensures { part.new ≡ spec.zipped bit_xor part.old (spec.blocks key.now nonce.now n 2) }
-{
-    if part.len() <= BLOCK {
-        mix_block(key, nonce, n, part);
+    if TWO < part.len() {
+        mix(part, &five::five(key, nonce, n));
         return;
     }
-    mix_block(key, nonce, n, &mut part[..BLOCK]);
-    mix_block(key, nonce, block::add(n, 1), &mut part[BLOCK..]);
-}
-
-// What is left at the end of a text, at most five blocks.
-fn mix_last(key: &[u8; 32], nonce: &[u8; 12], n: u32, part: &mut [u8])
-    requires { length part.old ≤ 320 }
-    ensures { part.new ≡ spec.zipped bit_xor part.old (spec.blocks key.now nonce.now n 5) }
-{
-    if part.len() <= TWO {
-        mix_two(key, nonce, n, part);
-        return;
+    let mut next = n;
+    for at in (0..part.len()).step_by(BLOCK) {
+        let len = BLOCK.min(part.len() - at);
+        mix(&mut part[at..at + len], &block::block(key, nonce, next));
+        next = next.wrapping_add(1);
     }
-    mix_five(key, nonce, n, part);
 }
 
-// The bytes of `text` combined with the keystream, in place: enciphered where they were plain, and deciphered where not.
+// The bytes of `text` combined with the keystream, in place: enciphered where they were plain, and deciphered where not. By places, since of
+// what `chunks_mut` leaves a proof knows the length alone.
 pub fn apply(key: &[u8; 32], nonce: &[u8; 12], text: &mut [u8])
     ensures { text.new ≡ spec.cipher key.now nonce.now text.old }
 {
-    let mut at = 0;
     let mut n = 0u32;
-    while FIVE < text.len() - at {
-        let e = at + FIVE;
-        mix_five(key, nonce, n, &mut text[at..e]);
-        n = block::add(n, 5);
-        at = e;
+    for at in (0..text.len()).step_by(FIVE) {
+        let len = FIVE.min(text.len() - at);
+        mix_blocks(key, nonce, n, &mut text[at..at + len]);
+        n = n.wrapping_add(5);
     }
-    mix_last(key, nonce, n, &mut text[at..]);
 }

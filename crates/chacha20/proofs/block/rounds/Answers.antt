@@ -3,17 +3,16 @@ use Rattle.std.proofs.Common.{◌≡◌, refl, ap, ◌∙◌, add-one, arith}
 use Rattle.chacha20.specs.ChaCha.{rounds, inner}
 use Rattle.chacha20.proofs.block.rounds.Goals as goal
 
-pub loop-n-init : goal.loop-n-init
+pub loop-init : goal.loop-init
 unfolding rounds
-loop-n-init c = (omega arith, refl)
+loop-init c = refl
 
-pub loop-n-preserved : goal.loop-n-preserved
+pub loop-preserved : goal.loop-preserved
 unfolding rounds
-loop-n-preserved c =
-    (omega arith, rw add-one (c.inner.ensures ∙ ap inner c.loop-n.invariant.1))
+loop-preserved c = rw add-one (c.inner.ensures ∙ ap inner c.loop.invariant)
 
 pub returns : goal.returns
 returns c =
-    let l = c.loop-n in
-    let e : l.n ≡ 10 = omega arith in
-    rw (← e) l.invariant.1
+    let l = c.loop in
+    let e : l.counter ≡ 10 = omega arith in
+    rw (← e) l.invariant

@@ -1,5 +1,5 @@
 -- `chacha20::five::five` meets its contract: each of the four comes out as a block by itself, and the fifth is one. Assumes nothing.
-use Rattle.std.proofs.Common.{◌≡◌, ℕ, length, ap, ◌∙◌, arith, rules}
+use Rattle.std.proofs.Common.{◌≡◌, length, ap, ◌∙◌, arith, rules}
 use Rattle.chacha20.specs.ChaCha.{add32, rounds, initial, zipped}
 use Rattle.chacha20.specs.Lanes.{rounds_four, initial_four}
 use Rattle.chacha20.proofs.Blocks.{length-rounds}
@@ -36,13 +36,14 @@ sums-requires-2 c =
     omega arith
 
 pub returns : goal.returns
+unfolding add32
 returns c =
     let a = c.args in
     let four = c.initial_four-t in
     let one = c.initial-o in
     let run = c.rounds_five in
     let o : one.result ≡ initial a.key.now a.nonce.now (add32 a.n 4) =
-    one.ensures ∙ ap (λ (i : ℕ). initial a.key.now a.nonce.now i) c.add.ensures in
+    one.ensures in
     let u : c.sums-2.new.s ≡ zipped add32 (rounds_four 10 (initial_four a.key.now a.nonce.now a.n)) (initial_four a.key.now a.nonce.now a.n) =
     c.sums-2.ensures ∙ rw (run.ensures.0, four.ensures) in
     let p : c.sums.new.s ≡ zipped add32 (rounds 10 (initial a.key.now a.nonce.now (add32 a.n 4))) (initial a.key.now a.nonce.now (add32 a.n 4)) =

@@ -4,20 +4,18 @@ use Rattle.chacha20.specs.ChaCha.{rounds, inner}
 use Rattle.chacha20.specs.Lanes.{rounds_four, inner_four}
 use Rattle.chacha20.proofs.five.rounds_five.Goals as goal
 
-pub loop-n-init : goal.loop-n-init
+pub loop-init : goal.loop-init
 unfolding rounds rounds_four
-loop-n-init c = (omega arith, (refl, refl))
+loop-init c = (refl, refl)
 
-pub loop-n-preserved : goal.loop-n-preserved
+pub loop-preserved : goal.loop-preserved
 unfolding rounds rounds_four
-loop-n-preserved c =
-    let l = c.loop-n in (
-      omega arith,
-      (rw add-one (c.inner_four.ensures ∙ ap inner_four l.invariant.1.0), rw add-one (c.inner.ensures ∙ ap inner l.invariant.1.1)),
-    )
+loop-preserved c =
+    let i = c.loop.invariant in
+    (rw add-one (c.inner_four.ensures ∙ ap inner_four i.0), rw add-one (c.inner.ensures ∙ ap inner i.1))
 
 pub returns : goal.returns
 returns c =
-    let l = c.loop-n in
-    let e : l.n ≡ 10 = omega arith in
-    (rw (← e) l.invariant.1.0, rw (← e) l.invariant.1.1)
+    let l = c.loop in
+    let e : l.counter ≡ 10 = omega arith in
+    (rw (← e) l.invariant.0, rw (← e) l.invariant.1)

@@ -1,25 +1,14 @@
--- `chacha20::five::spread` meets its contract: after i turns the first i words are those of the table. Assumes nothing.
-use Rattle.std.proofs.Common.{◌≡◌, ℕ, ◌/◌, length, get_or, sym, arith}
-use Rattle.chacha20.specs.Lanes.{table, spread}
-use Rattle.words.specs.Bytes.{zeros}
-use Rattle.chacha20.proofs.Front.{front-none, front-turn, front-all}
-use Rattle.chacha20.proofs.Table.{length-table, table_at}
+-- `chacha20::five::spread` meets its contract: the words are those of the table. Assumes nothing.
+use Rattle.std.proofs.Common.{ℕ, ◌/◌, get_or, ◌∙◌, rules}
+use Rattle.chacha20.specs.Lanes.{spread}
+use Rattle.chacha20.proofs.Made.{made}
+use Rattle.chacha20.proofs.Table.{table-get_d, table-ext}
 use Rattle.chacha20.proofs.five.spread.Goals as goal
-
-pub loop-i-init : goal.loop-i-init
-loop-i-init c = (omega arith, front-none (table 64 (λ j. get_or c.args.s.now (j / 4) 0)) (zeros 64))
-
-pub loop-i-preserved : goal.loop-i-preserved
-loop-i-preserved c =
-    let l = c.loop-i in
-    let g : ℕ → ℕ = λ j. get_or c.args.s.now (j / 4) 0 in
-    let n : length (table 64 g) ≡ 64 = length-table 64 g in
-    (omega arith, front-turn l.i _ (table 64 g) (zeros 64) l.t (omega arith) (omega arith) (sym (table_at 64 g l.i (omega arith))) l.invariant.1)
 
 pub returns : goal.returns
 unfolding spread
 returns c =
-    let l = c.loop-i in
-    let g : ℕ → ℕ = λ j. get_or c.args.s.now (j / 4) 0 in
-    let n : length (table 64 g) ≡ 64 = length-table 64 g in
-    front-all l.i (table 64 g) (zeros 64) l.t (omega arith) n l.invariant.1
+    let m = c.from_fn.ensures.items in
+    let r = c.from_fn.result in
+    let want : ℕ → ℕ = λ i. get_or c.args.s.now (i / 4) 0 in
+    table-get_d r 64 m.long ∙ table-ext 64 (λ i. get_or r i 0) want (made _ want _ (λ i y q k. search rules) r 64 m)
