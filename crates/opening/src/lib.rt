@@ -23,7 +23,7 @@ pub fn id_asked(desk: &[u8]) -> usize
     requires { OpenDesk desk.now }
     ensures { result ≡ id_asked desk.now }
 {
-    words::get16(desk, desk::shape_of(desk).c_at() + desk::ID_IN) as usize
+    usize::from(words::get16(desk, desk::shape_of(desk).c_at() + desk::ID_IN))
 }
 
 // What the steps of finish read from a desk.
@@ -38,14 +38,12 @@ pub fn view(desk: &[u8]) -> View
     words::copy(&mut key, 0, &desk[a..m]);
     let mut root = [0u8; Sizes::DIGEST];
     words::copy(&mut root, 0, &desk[m..e]);
-    let s = desk::sizes_of(desk);
-    let leaf = desk::position(desk, id_asked(desk)) as usize;
     View {
-        sizes: s,
-        key: key,
-        written: desk[desk::WRITTEN],
-        root: root,
-        leaf: leaf,
+        sizes: desk::sizes_of(desk),
+        key,
+        written: desk[desk::WRITTEN] == 1,
+        root,
+        leaf: usize::from(desk::position(desk, id_asked(desk))),
     }
 }
 
@@ -56,10 +54,8 @@ fn open_slots(w: &mut [u8], path: &[u8], v: View, n: usize)
     ensures { Unsealed v path.now n w.new }
 {
     words::copy(w, 0, path);
-    let mut k = 0;
-    while k < n {
+    for k in 0..n {
         items::cipher_slots(w, v, k);
-        k += 1;
     }
 }
 
