@@ -59,15 +59,8 @@ fn open_slots(w: &mut [u8], path: &[u8], v: View, n: usize)
     }
 }
 
-// What steps 1 and 2 find: how many items are reachable, and whether all checks pass.
-#[derive(Clone, Copy, Drop)]
-pub struct Opening {
-    pub count: usize,
-    pub good: bool,
-}
-
-// Steps 1 and 2, whole. The opened slots are left in the lent working copy.
-pub fn open_path(desk: &[u8], path: &[u8], v: View, w: &mut [u8]) -> Opening
+// Steps 1 and 2, whole: how many items are reachable, if all checks pass. The opened slots are left in the lent working copy.
+pub fn open_path(desk: &[u8], path: &[u8], v: View, w: &mut [u8]) -> Option<usize>
     requires open_desk { OpenDesk desk.now × ((v ≡ view_of desk.now) × (length path.now ≡ path_len v.sizes)) }
     requires w_len { length w.old ≡ most_path }
     ensures { Opens desk.now path.now w.new result }
@@ -77,8 +70,5 @@ pub fn open_path(desk: &[u8], path: &[u8], v: View, w: &mut [u8]) -> Opening
     let f = checks::flags_good(path, v, n);
     open_slots(w, path, v, n);
     let s = table::slots_good(desk, w, v, n);
-    Opening {
-        count: n,
-        good: d & f & s,
-    }
+    (d & f & s).then_some(n)
 }
