@@ -1,12 +1,10 @@
 -- The laws of lookup: of the first of several slots with an id, and of lists that stand together. Assumes nothing.
-use Prim.Native.Nat.{ℕ, zero, suc, ◌+◌, ◌-◌, ◌*◌, ◌≤◌, ◌<◌}
-use mathlib.Core.Bool.{true, false, cond}
-use mathlib.Core.Path.{◌≡◌, refl, sym, ap, ap₂, ◌∙◌}
+use Prim.Native.Nat.{ℕ, zero, suc, ◌+◌, ◌*◌, ◌≤◌, ◌<◌}
+use mathlib.Core.Bool.{false, cond}
+use mathlib.Core.Path.{◌≡◌, refl, ap}
 use mathlib.Core.List.{List, [], ◌∷◌, ◌++◌}
-use native.Mathlib.Nat.{mul-zero}
 use native.Mathlib.Omega.{arith}
-use lib.ListN.{length, take, drop, length-drop}
-use lib.Seq.{drop-drop}
+use lib.ListN.{length, drop, length-drop}
 use lib.Dec.{eqb}
 use borrow.Author.Tests.{eq-eqb, ne_eqb, eqb-true}
 use Rattle.words.specs.Bytes.{part}
@@ -14,40 +12,26 @@ use Rattle.words.specs.Numbers.{number}
 use Rattle.words.proofs.Splice.{length_part}
 use Rattle.words.proofs.Tests.{by_cases}
 use Rattle.bags.specs.Bags.{bit, cnt, those, AllOf}
-use Rattle.slots.specs.Slots.{Block, is_used, slot_by, block_by, blocks_by}
+use Rattle.slots.specs.Slots.{Block, is_used, slot_by, blocks_by, blocks_of}
 use Rattle.slots.proofs.Blocks.{slots-suc}
-use Rattle.sizes.specs.Sizes.{slot_head}
+use Rattle.sizes.specs.Sizes.{slot_head, slot_len, record_len}
+use Rattle.placing.proofs.Laid.{slot-next}
 use Rattle.opening.specs.Opening.{is_id, lookup}
-use Rattle.opening.proofs.Walk.{rest-cons, rest-none, slot-id}
 
--- ---- slots, one after another
+-- ---- the next of several slots: it has the id, or the others are looked through
 
-module _ (r n : ℕ) (xs : List ℕ) (id : ℕ) where
-  abbrev rest : ℕ → List Block
-  rest j = blocks_by r (n - j) (drop (slot_by r * j) xs)
-
-  pub lookup-start : lookup id (blocks_by r n xs) ≡ lookup id (rest 0)
-  lookup-start = let z = mul-zero (slot_by r) in let e : n - 0 ≡ n = omega arith in rw (z, e)
-
-  module _ (j : ℕ) (h : j < n) where
-    pub lookup-hit : (a m : ℕ) → number 2 xs (slot_by r * j) ≡ id → a ≡ slot_by r * j + slot_head → m ≡ r → part xs a m ≡ lookup id (rest j)
-    unfolding lookup
-    lookup-hit a m e f g =
-        let b = block_by r (drop (slot_by r * j) xs) in
-        let t : eqb b.id id ≡ true = eq-eqb b.id id (sym (slot-id r j xs) ∙ e) in
-        let p : part xs a m ≡ b.bytes = ap₂ (λ (i k : ℕ). part xs i k) f g ∙ ap (take r) (sym (drop-drop slot_head (slot_by r * j) xs)) in
-        p ∙ sym (ap (lookup id) (rest-cons r n j xs h) ∙ rw t)
-
-    pub lookup-miss : (number 2 xs (slot_by r * j) ≡ id → ⊥) → lookup id (rest j) ≡ lookup id (rest (j + 1))
-    unfolding lookup
-    lookup-miss e =
-        let b = block_by r (drop (slot_by r * j) xs) in
-        let t : eqb b.id id ≡ false = ne_eqb b.id id (λ q. e (slot-id r j xs ∙ q)) in
-        ap (lookup id) (rest-cons r n j xs h) ∙ rw t
-
-  pub lookup-end : (j : ℕ) → n ≤ j → lookup id (rest j) ≡ []
+module _ (id : ℕ) (xs slot rest : List ℕ) (cut : xs ≡ slot ++ rest) (long : length slot ≡ slot_len) (n m : ℕ) (one : m + 1 ≡ n) where
+  pub lookup-hit : number 2 slot 0 ≡ id → lookup id (blocks_of n xs) ≡ part slot slot_head record_len
   unfolding lookup
-  lookup-end j h = ap (lookup id) (rest-none r n j (drop (slot_by r * j) xs) h)
+  lookup-hit e = rw (slot-next xs slot rest cut long n m one, eq-eqb (number 2 slot 0) id e)
+
+  pub lookup-miss : (number 2 slot 0 ≡ id → ⊥) → lookup id (blocks_of n xs) ≡ lookup id (blocks_of m rest)
+  unfolding lookup
+  lookup-miss e = rw (slot-next xs slot rest cut long n m one, ne_eqb (number 2 slot 0) id e)
+
+pub lookup-end : (id : ℕ) (xs : List ℕ) (n : ℕ) → n ≡ 0 → lookup id (blocks_of n xs) ≡ []
+unfolding lookup blocks_by
+lookup-end id xs n h = rw h
 
 -- the records of slots have their length
 pub records-long : (r n : ℕ) (xs : List ℕ) → slot_by r * n ≤ length xs → AllOf (λ b. length b.bytes ≡ r) (blocks_by r n xs)

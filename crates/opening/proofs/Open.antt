@@ -1,6 +1,6 @@
 -- A good desk with an open request has what the steps of finish need of it. Assumes nothing.
 use Prim.Native.Nat.{ℕ, suc, ◌+◌, ◌*◌, ◌≤◌, ◌<◌}
-use mathlib.Core.Bool.{Bool, true, ◌&&◌, and_assoc}
+use mathlib.Core.Bool.{Bool, true, false, ◌&&◌, and_assoc}
 use mathlib.Core.Path.{◌≡◌, refl, sym, ap, ap₂, ◌∙◌, subst}
 use mathlib.Core.List.{List, [], ◌∷◌}
 use native.Mathlib.Nat.{add-zero, mul-le-mul_left}
@@ -8,11 +8,12 @@ use native.Mathlib.Omega.{arith}
 use lib.ListN.{length, drop, length-drop}
 use lib.Seq.{drop-drop}
 use lib.Dec.{eqb}
-use borrow.Author.Tests.{eqb-true}
+use borrow.Author.Tests.{eqb-true, lt-ltb, le-ltb}
+use Rattle.std.specs.Bool.{then_some}
 use Rattle.words.specs.Numbers.{number}
 use Rattle.words.specs.Tests.{all}
 use Rattle.words.proofs.Numbers.{number-drop}
-use Rattle.words.proofs.Tests.{by_cases}
+use Rattle.words.proofs.Tests.{by_cases, below_or}
 use Rattle.sizes.specs.Sizes.{InRange, leaves, most_ids, most_path, record_len, slot_len, count_len}
 use Rattle.sizes.proofs.Lengths.{path_most}
 use Rattle.bags.specs.Bags.{bit, cnt}
@@ -28,9 +29,11 @@ use Rattle.desk.proofs.Exactly.{good-conditions}
 use Rattle.desk.proofs.Stash as stash
 use Rattle.items.specs.declared.View.{View}
 use Rattle.items.specs.Items.{Carries}
+use Rattle.items.specs.Way.{Reached}
 use Rattle.items.specs.Real.{real}
 use Rattle.opening.specs.Opening.{is_id, stash_slots, view_of, digest_fits, flags_fit, found, each_fits, is_there, slots_fit, genuine}
-use Rattle.opening.specs.Walk.{OpenDesk}
+use Rattle.opening.specs.Walk.{OpenDesk, Unsealed, Opens}
+use Rattle.opening.proofs.Tests.{no_true}
 
 -- ---- the stash of such a desk
 
@@ -118,3 +121,21 @@ whole-genuine desk path d f s v e p q r =
     let p₁ : d ≡ all (suc (height_of desk)) (digest_fits real (view_of desk) path) = subst (λ (v : View). d ≡ all (suc v.sizes.height) (digest_fits real v path)) e p in
     let q₁ : f ≡ all (height_of desk) (flags_fit (view_of desk) path) = subst (λ (v : View). f ≡ all v.sizes.height (flags_fit v path)) e q in
     rw (p₁, q₁, r) (sym (and_assoc (all (suc (height_of desk)) (digest_fits real (view_of desk) path) && all (height_of desk) (flags_fit (view_of desk) path)) (all (suc (height_of desk)) (λ k. each_fits real desk path k (found real desk path k))) (is_there real desk path)))
+
+-- there is one number of reachable items
+pub reached-same : (v : View) (path : List ℕ) (m n : ℕ) → Reached v path m → Reached v path n → m ≡ n
+reached-same v path m n r s =
+    below_or m n
+    (λ l. absurd (no_true (sym (sym (r.exactly m (omega (arith, s.most))) ∙ s.exactly m (omega (arith, s.most)) ∙ lt-ltb m n l) ∙ le-ltb m m (omega arith))))
+    (λ l.
+    below_or n m
+    (λ k. absurd (no_true (sym (sym (s.exactly n (omega (arith, r.most))) ∙ r.exactly n (omega (arith, r.most)) ∙ lt-ltb n m k) ∙ le-ltb n n (omega arith))))
+    (λ k. omega arith))
+
+-- what steps 1 and 2 hand back, of whether all checks pass and of the number of reachable items
+pub opens-given : (desk path w : List ℕ) (passed : Bool) (n : ℕ) → passed ≡ genuine real desk path → Reached (view_of desk) path n → Unsealed (view_of desk) path n w
+    → Opens desk path w (then_some passed n)
+opens-given desk path w true n e r u =
+    record { good = e; count = r; opened = λ m s. rw (reached-same (view_of desk) path n m r s) at u }
+opens-given desk path w false n e r u =
+    record { good = e; count = tt; opened = λ m s. rw (reached-same (view_of desk) path n m r s) at u }

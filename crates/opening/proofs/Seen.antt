@@ -2,20 +2,22 @@
 use Prim.Native.Nat.{ℕ, suc, ◌+◌, ◌*◌, ◌≤◌, ◌<◌}
 use mathlib.Core.Bool.{false}
 use mathlib.Core.Path.{◌≡◌, sym, ap, ◌∙◌}
-use mathlib.Core.List.{List, [], ◌∷◌, ◌++◌}
+use mathlib.Core.List.{List, [], ◌∷◌, ◌++◌, append_assoc}
 use native.Mathlib.Omega.{arith}
-use lib.ListN.{length, get_or, set, drop, length-set, get_or-replicate}
+use lib.ListN.{length, get_or, set, length-set, get_or-replicate}
 use lib.Seq.{get_or-set_same, get_or-set_other}
 use lib.Dec.{eqb}
 use borrow.Author.Tests.{ne_eqb, eqb-true, eqb-false}
 use Rattle.words.specs.Bytes.{zeros}
 use Rattle.words.proofs.Splice.{length-zeros}
 use Rattle.words.proofs.Tests.{by_cases}
-use Rattle.sizes.specs.Sizes.{most_ids}
+use Rattle.sizes.specs.Sizes.{most_ids, slot_len, record_len}
 use Rattle.bags.specs.Bags.{cnt, those}
 use Rattle.bags.proofs.Bags.{cnt-append, cnt-those}
-use Rattle.slots.specs.Slots.{Block, is_used, slot_by, block_by, blocks_by}
-use Rattle.slots.proofs.Blocks.{blocks-append}
+use Rattle.slots.specs.Slots.{Block, is_used, block_by, blocks_of}
+use Rattle.words.specs.Numbers.{number}
+use Rattle.words.proofs.Numbers.{number-drop}
+use Rattle.placing.proofs.Laid.{slot-first, slot-rest, slot-next}
 use Rattle.opening.specs.Opening.{is_id}
 use Rattle.opening.specs.Walk.{Seen}
 
@@ -56,15 +58,23 @@ seen-used seen met b h s =
     (λ id l. omega (arith, cnt-append (is_id id) met (b ∷ []), cnt-append (is_id id) met (those is_used (b ∷ [])), used-counts id l (b ∷ [])))
     (seen-mark seen met b h s)
 
--- no slot, and one slot more of several
-pub seen_first : (r : ℕ) (xs : List ℕ) → Seen (zeros (suc most_ids)) (blocks_by r 0 xs)
-unfolding blocks_by
-seen_first r xs = seen_none
+-- the next of several slots, whose ids are small, after others were met
+module _ (xs slot rest : List ℕ) (cut : xs ≡ slot ++ rest) (long : length slot ≡ slot_len) (n m : ℕ) (one : m + 1 ≡ n) where
+  pub small-here : ((i : ℕ) → i < n → number 2 xs (slot_len * i) ≤ most_ids) → number 2 slot 0 ≤ most_ids
+  small-here f = omega (arith, f 0 (omega arith), ap (λ (b : Block). b.id) (slot-first xs slot rest cut long))
 
-pub seen_next : (r : ℕ) (xs seen : List ℕ) (i id : ℕ) → id ≡ (block_by r (drop (slot_by r * i) xs)).id → id ≤ most_ids → Seen seen (blocks_by r i xs)
-    → Seen (set seen id 1) (blocks_by r (i + 1) xs)
-unfolding blocks_by
-seen_next r xs seen i id e h s =
-    let b : Block = block_by r (drop (slot_by r * i) xs) in
-    let g : blocks_by r (i + 1) xs ≡ blocks_by r i xs ++ (b ∷ []) = blocks-append r i 1 xs in
-    rw (g, e) (seen-mark seen (blocks_by r i xs) b (omega arith) s)
+  pub small-rest : ((i : ℕ) → i < n → number 2 xs (slot_len * i) ≤ most_ids) → (i : ℕ) → i < m → number 2 rest (slot_len * i) ≤ most_ids
+  small-rest f i h =
+      let e : slot_len + slot_len * i ≡ slot_len * (i + 1) = omega arith in
+      let g : number 2 rest (slot_len * i) ≡ number 2 xs (slot_len * (i + 1)) =
+      ap (λ (ys : List ℕ). number 2 ys (slot_len * i)) (slot-rest xs slot rest cut long) ∙ number-drop 2 xs slot_len (slot_len * i) ∙ ap (number 2 xs) e in
+      omega (arith, g, f (i + 1) (omega arith))
+
+  pub seen-next : (whole met : List Block) (seen : List ℕ) (id : ℕ) → id ≡ number 2 slot 0 → number 2 slot 0 ≤ most_ids → met ++ blocks_of n xs ≡ whole → Seen seen met
+      → (next : List Block) × (next ++ blocks_of m rest ≡ whole) × Seen (set seen id 1) next
+  seen-next whole met seen id i h e s =
+      let b = block_by record_len slot in (
+        met ++ (b ∷ []),
+        append_assoc met (b ∷ []) (blocks_of m rest) ∙ ap (λ (bs : List Block). met ++ bs) (sym (slot-next xs slot rest cut long n m one)) ∙ e,
+        rw i (seen-mark seen met b h s),
+      )

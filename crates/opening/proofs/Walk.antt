@@ -1,37 +1,17 @@
 -- The walk over slots: what its turns leave. Assumes nothing.
-use Prim.Native.Nat.{ℕ, suc, ◌+◌, ◌-◌, ◌*◌, ◌≤◌, ◌<◌}
+use Prim.Native.Nat.{ℕ, ◌+◌, ◌*◌}
 use mathlib.Core.Bool.{Bool, true, false, ◌&&◌}
 use mathlib.Core.Path.{◌≡◌, refl, sym, ap, ◌∙◌, subst}
 use mathlib.Core.List.{List, [], ◌∷◌, ◌++◌, append_assoc, append-nil}
-use native.Mathlib.Numerals.{add-one}
-use native.Mathlib.Nat.{mul-zero}
 use native.Mathlib.Omega.{arith}
 use lib.ListN.{drop}
-use lib.Seq.{drop-drop}
-use Rattle.words.specs.Bytes.{part}
 use Rattle.words.specs.Numbers.{number}
 use Rattle.words.proofs.Numbers.{number-drop}
 use Rattle.words.proofs.Tests.{by_cases}
 use Rattle.bags.specs.Bags.{those}
-use Rattle.slots.specs.Slots.{Block, is_used, slot_by, block_by, blocks_by}
-use Rattle.slots.proofs.Blocks.{slots-suc, block-part}
+use Rattle.slots.specs.Slots.{Block, is_used, slot_by, block_by}
 use Rattle.opening.specs.Walk.{Seen, walk, passes, Looked, Walked}
 use Rattle.opening.proofs.Tests.{no_true}
-
--- the first slot of the rest, after j of n
-pub rest-cons : (r n j : ℕ) (xs : List ℕ) → j < n
-    → blocks_by r (n - j) (drop (slot_by r * j) xs) ≡ block_by r (drop (slot_by r * j) xs) ∷ blocks_by r (n - (j + 1)) (drop (slot_by r * (j + 1)) xs)
-unfolding blocks_by
-rest-cons r n j xs h =
-    let e : n - j ≡ suc (n - (j + 1)) = omega arith in
-    let f : slot_by r * j + slot_by r ≡ slot_by r * (j + 1) = omega (arith, slots-suc r j, ap (λ (i : ℕ). slot_by r * i) (add-one j)) in
-    let g : slot_by r + slot_by r * j ≡ slot_by r * (j + 1) = omega arith in
-    ap (λ (i : ℕ). blocks_by r i (drop (slot_by r * j) xs)) e
-    ∙ ap (λ (ys : List ℕ). block_by r (drop (slot_by r * j) xs) ∷ blocks_by r (n - (j + 1)) ys) (drop-drop (slot_by r) (slot_by r * j) xs ∙ ap (λ (i : ℕ). drop i xs) f)
-
-pub rest-none : (r n j : ℕ) (xs : List ℕ) → n ≤ j → blocks_by r (n - j) xs ≡ []
-unfolding blocks_by
-rest-none r n j xs h = let e : n - j ≡ 0 = omega arith in rw e
 
 -- its id, and the block that a part shows
 pub slot-id : (r j : ℕ) (xs : List ℕ) → number 2 xs (slot_by r * j) ≡ (block_by r (drop (slot_by r * j) xs)).id
@@ -89,36 +69,3 @@ module _ (desk : List ℕ) (k : ℕ) (all : List Block) where
             let j : h.here ≡ met ++ those is_used all = sym (append-nil h.here) ∙ ap (λ (bs : List Block). h.here ++ those is_used bs) (sym e) ∙ h.joins in
             subst (λ (bs : List Block). Seen seen bs) j h.table;
       }
-
--- ---- the walk over the first n slots of xs
-
-module _ (desk : List ℕ) (k r n : ℕ) (xs : List ℕ) where
-  abbrev pub rest : ℕ → List Block
-  rest j = blocks_by r (n - j) (drop (slot_by r * j) xs)
-
-  abbrev pub RunTo : ℕ → List ℕ → List ℕ → Type 0
-  RunTo j before seen = Run desk k (blocks_by r n xs) (rest j) before seen
-
-  pub walked_none : (seen : List ℕ) → RunTo 0 seen seen
-  walked_none seen = run_none desk k (blocks_by r n xs) (rest 0) seen (let z = mul-zero (slot_by r) in let e : n - 0 ≡ n = omega arith in rw (z, e))
-
-  module _ (j m : ℕ) (before seen after : List ℕ) (h : j < n) (l : slot_by r ≤ m) (run : RunTo j before seen) where
-    abbrev b : Block
-    b = block_by r (drop (slot_by r * j) xs)
-
-    here : Run desk k (blocks_by r n xs) (b ∷ rest (j + 1)) before seen
-    here = subst (λ (bs : List Block). Run desk k (blocks_by r n xs) bs before seen) (rest-cons r n j xs h) run
-
-    shown : block_by r (part xs (slot_by r * j) m) ≡ b
-    shown = block-part r xs (slot_by r * j) m l
-
-    pub walked_next : Looked desk k (block_by r (part xs (slot_by r * j) m)) seen after true → RunTo (j + 1) before after
-    walked_next look =
-        run_step desk k (blocks_by r n xs) b (rest (j + 1)) before seen after here (subst (λ (x : Block). Looked desk k x seen after true) shown look)
-
-    pub walked-fails : Looked desk k (block_by r (part xs (slot_by r * j) m)) seen after false → Walked desk k (blocks_by r n xs) before after false
-    walked-fails look =
-        run-fails desk k (blocks_by r n xs) b (rest (j + 1)) before seen after here (subst (λ (x : Block). Looked desk k x seen after false) shown look)
-
-  pub walked_end : (j : ℕ) (before seen : List ℕ) → n ≤ j → RunTo j before seen → Walked desk k (blocks_by r n xs) before seen true
-  walked_end j before seen h run = run_end desk k (blocks_by r n xs) (rest j) before seen (rest-none r n j (drop (slot_by r * j) xs) h) run

@@ -1,5 +1,5 @@
 -- The checks of the slots as a walk: slot after slot, with the blocks met so far, the stash first. Assumes nothing.
-use Rattle.std.specs.Prelude.{ℕ, suc, ◌≤◌, ◌<◌, ◌≡◌, Bool, true, not, ◌&&◌, ◌||◌, List, [], ◌∷◌, ◌++◌, length, get_or, eqb}
+use Rattle.std.specs.Prelude.{ℕ, suc, ◌≤◌, ◌<◌, ◌≡◌, Bool, true, not, Option, is_some, IfSome, ◌&&◌, ◌||◌, List, [], ◌∷◌, ◌++◌, length, get_or, eqb}
 use Rattle.sizes.specs.Sizes.{most_ids, InRange, leaves, most_path}
 use Rattle.bags.specs.Bags.{cnt, those}
 use Rattle.slots.specs.Slots.{Block, is_used}
@@ -9,7 +9,6 @@ use Rattle.items.specs.declared.View.{View}
 use Rattle.items.specs.Items.{slots_of, slots_opened}
 use Rattle.items.specs.Way.{item, bucket, Reached}
 use Rattle.items.specs.Real.{real}
-use Rattle.opening.specs.declared.Opening.{Opening}
 use Rattle.opening.specs.Opening.{is_id, is_placed, view_of, genuine}
 
 -- what these steps need of a desk: a good one has it while a request is open
@@ -52,8 +51,8 @@ pub record Walked (desk : List ℕ) (k : ℕ) (bs : List Block) (before after : 
   pub answer : (met : List Block) → Seen before met → r ≡ walk desk k met bs
   pub met : (met : List Block) → Seen before met → r ≡ true → Seen after (met ++ those is_used bs)
 
--- steps 1 and 2, whole, with the working copy that they leave
-pub record Opens (desk path w : List ℕ) (o : Opening) : Type 0 where
-  pub count : Reached (view_of desk) path o.count
-  pub good : o.good ≡ genuine real desk path
-  pub opened : Unsealed (view_of desk) path o.count w
+-- steps 1 and 2, whole: the number of reachable items, if all checks pass; and the working copy that they leave
+pub record Opens (desk path w : List ℕ) (o : Option ℕ) : Type 0 where
+  pub good : is_some o ≡ genuine real desk path
+  pub count : IfSome o (λ n. Reached (view_of desk) path n)
+  pub opened : (n : ℕ) → Reached (view_of desk) path n → Unsealed (view_of desk) path n w

@@ -11,23 +11,14 @@ use items::View;
 use sizes::Sizes;
 
 // The counter of a worn item.
-const LAST: u64 = 18446744073709551615;
+const LAST: u64 = u64::MAX;
 
 // Whether the digests of the reachable items are the ones due.
 pub fn digests_good(path: &[u8], v: View, n: usize) -> bool
     requires { Carries v.sizes path.now × Reached v path.now n }
     ensures { result ≡ all (suc v.sizes.height) (digest_fits real v path.now) }
 {
-    let s = v.sizes;
-    let mut k = 0;
-    while k < n {
-        let d = items::item_digest(path, s, k);
-        if !items::is_due(&d, path, v, k) {
-            return false;
-        }
-        k += 1;
-    }
-    true
+    (0..n).all(|k| items::is_due(&items::item_digest(path, v.sizes, k), path, v, k))
 }
 
 // Whether both flags of an inner item are 0 or 1.
@@ -43,18 +34,8 @@ pub fn flags_good(path: &[u8], v: View, n: usize) -> bool
     requires { Carries v.sizes path.now × Reached v path.now n }
     ensures { result ≡ all v.sizes.height (flags_fit v path.now) }
 {
-    let s = v.sizes;
-    let mut k = 0;
-    while k < s.height {
-        if n <= k {
-            return true;
-        }
-        if !flags_at(path, s, k) {
-            return false;
-        }
-        k += 1;
-    }
-    true
+    let inner = n.min(v.sizes.height);
+    (0..inner).all(|k| flags_at(path, v.sizes, k))
 }
 
 // Whether a reachable item has the last counter.
@@ -62,13 +43,5 @@ pub fn is_worn(path: &[u8], v: View, n: usize) -> bool
     requires { Carries v.sizes path.now × Reached v path.now n }
     ensures { result ≡ worn_in v path.now }
 {
-    let s = v.sizes;
-    let mut k = 0;
-    while k < n {
-        if items::counter(path, s, k) == LAST {
-            return true;
-        }
-        k += 1;
-    }
-    false
+    (0..n).any(|k| items::counter(path, v.sizes, k) == LAST)
 }

@@ -23,7 +23,7 @@ pub fn id_asked(desk: &[u8]) -> usize
     requires { OpenDesk desk.now }
     ensures { result ≡ id_asked desk.now }
 {
-    words::get16(desk, desk::shape_of(desk).c_at() + desk::ID_IN) as usize
+    usize::from(words::get16(desk, desk::shape_of(desk).c_at() + desk::ID_IN))
 }
 
 // What the steps of finish read from a desk.
@@ -38,14 +38,12 @@ pub fn view(desk: &[u8]) -> View
     words::copy(&mut key, 0, &desk[a..m]);
     let mut root = [0u8; Sizes::DIGEST];
     words::copy(&mut root, 0, &desk[m..e]);
-    let s = desk::sizes_of(desk);
-    let leaf = desk::position(desk, id_asked(desk)) as usize;
     View {
-        sizes: s,
-        key: key,
-        written: desk[desk::WRITTEN],
-        root: root,
-        leaf: leaf,
+        sizes: desk::sizes_of(desk),
+        key,
+        written: desk[desk::WRITTEN] == 1,
+        root,
+        leaf: usize::from(desk::position(desk, id_asked(desk))),
     }
 }
 
@@ -56,22 +54,13 @@ fn open_slots(w: &mut [u8], path: &[u8], v: View, n: usize)
     ensures { Unsealed v path.now n w.new }
 {
     words::copy(w, 0, path);
-    let mut k = 0;
-    while k < n {
+    for k in 0..n {
         items::cipher_slots(w, v, k);
-        k += 1;
     }
 }
 
-// What steps 1 and 2 find: how many items are reachable, and whether all checks pass.
-#[derive(Clone, Copy, Drop)]
-pub struct Opening {
-    pub count: usize,
-    pub good: bool,
-}
-
-// Steps 1 and 2, whole. The opened slots are left in the lent working copy.
-pub fn open_path(desk: &[u8], path: &[u8], v: View, w: &mut [u8]) -> Opening
+// Steps 1 and 2, whole: how many items are reachable, if all checks pass. The opened slots are left in the lent working copy.
+pub fn open_path(desk: &[u8], path: &[u8], v: View, w: &mut [u8]) -> Option<usize>
     requires open_desk { OpenDesk desk.now × ((v ≡ view_of desk.now) × (length path.now ≡ path_len v.sizes)) }
     requires w_len { length w.old ≡ most_path }
     ensures { Opens desk.now path.now w.new result }
@@ -81,8 +70,5 @@ pub fn open_path(desk: &[u8], path: &[u8], v: View, w: &mut [u8]) -> Opening
     let f = checks::flags_good(path, v, n);
     open_slots(w, path, v, n);
     let s = table::slots_good(desk, w, v, n);
-    Opening {
-        count: n,
-        good: d & f & s,
-    }
+    (d & f & s).then_some(n)
 }

@@ -74,16 +74,10 @@ fn item_good(desk: &[u8], slots: &[u8], seen: &mut [u8], v: View, k: usize) -> b
     requires slots_len { (length slots.now ≡ slots_len v.sizes) × (length seen.old ≡ suc most_ids) }
     ensures { Walked desk.now k (blocks_of v.sizes.slots slots.now) seen.old seen.new result }
 {
-    let s = v.sizes;
-    let n = s.slots;
-    let mut j = 0;
-    while j < n {
-        let a = Sizes::SLOT * j;
-        let e = a + Sizes::SLOT;
-        if !slot_good(desk, &slots[a..e], seen, v, k) {
+    for slot in slots.chunks_exact(Sizes::SLOT).take(v.sizes.slots) {
+        if !slot_good(desk, slot, seen, v, k) {
             return false;
         }
-        j += 1;
     }
     true
 }
@@ -111,11 +105,9 @@ fn ids_seen(slots: &[u8], n: usize) -> [u8; TABLE]
     ensures { Seen result (blocks_of n slots.now) }
 {
     let mut seen = [0u8; TABLE];
-    let mut i = 0;
-    while i < n {
-        let id = words::get16(slots, Sizes::SLOT * i) as usize;
+    for slot in slots.chunks_exact(Sizes::SLOT).take(n) {
+        let id = usize::from(words::get16(slot, 0));
         seen[id] = 1;
-        i += 1;
     }
     seen
 }
@@ -128,12 +120,10 @@ pub fn slots_good(desk: &[u8], w: &[u8], v: View, n: usize) -> bool
 {
     let mut seen = ids_seen(stash_slots(desk), stash_count(desk));
     let s = v.sizes;
-    let mut k = 0;
-    while k < n {
+    for k in 0..n {
         if !item_good(desk, items::slots(w, s, k), &mut seen, v, k) {
             return false;
         }
-        k += 1;
     }
     let id = crate::id_asked(desk);
     !is_marked(desk, id) | (seen[id] != 0)

@@ -67,10 +67,10 @@ fit_at bank (p ∷ ps) b f = (fits_in bank p b (f 0 (omega arith)), fit_at bank 
 
 -- slots one behind another: the first one, and the others
 module _ (xs slot rest : List ℕ) (cut : xs ≡ slot ++ rest) (long : length slot ≡ slot_len) where
-  slot-first : block_by record_len slot ≡ block_by record_len xs
+  pub slot-first : block_by record_len slot ≡ block_by record_len xs
   slot-first = ap (block_by record_len) (sym (ap (take slot_len) cut ∙ take_at slot rest slot_len long)) ∙ block-part record_len xs 0 slot_len (omega arith)
 
-  slot-rest : rest ≡ drop slot_len xs
+  pub slot-rest : rest ≡ drop slot_len xs
   slot-rest = sym (ap (drop slot_len) cut ∙ ap (λ (i : ℕ). drop i (slot ++ rest)) (sym long) ∙ drop-append_seam slot rest)
 
   pub slot-next : (n m : ℕ) → m + 1 ≡ n → blocks_of n xs ≡ block_by record_len slot ∷ blocks_of m rest
@@ -92,6 +92,10 @@ module _ (xs slot rest : List ℕ) (cut : xs ≡ slot ++ rest) (long : length sl
 pub slots-over : (n : ℕ) (xs : List ℕ) → slot_len * n ≤ length xs → (0 < n → length xs < slot_len) → n ≡ 0
 slots-over zero xs h f = refl
 slots-over (suc n) xs h f = absurd (omega (arith, f (omega arith)))
+
+pub no-slots : (xs : List ℕ) (n : ℕ) → n ≡ 0 → blocks_of n xs ≡ []
+unfolding blocks_by
+no-slots xs n e = rw e
 
 -- the first of several places in a bank, and the others
 pub inside-next : (bank qs ps : List ℕ) (p : ℕ) → qs ≡ p ∷ ps → Inside bank qs → (slot_len * p + slot_len ≤ length bank) × Inside bank ps

@@ -23,4 +23,4 @@ get16-requires c =
 pub returns : goal.returns
 returns c =
     let start : c.c_at.result ≡ c_at (shape_of c.args.desk.now) = c.c_at.ensures ∙ ap c_at c.shape_of.ensures in
-    let a = c.args in c.get16.ensures ∙ ap (λ (k : ℕ). number 2 a.desk.now (k + id_in)) start
+    let a = c.args in (c.from.ensures ∙ c.get16.ensures) ∙ ap (λ (k : ℕ). number 2 a.desk.now (k + id_in)) start

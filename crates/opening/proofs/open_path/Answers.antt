@@ -5,7 +5,7 @@ use Rattle.items.specs.declared.View.{View}
 use Rattle.items.specs.Items.{Carries}
 use Rattle.items.specs.Way.{Reached}
 use Rattle.opening.specs.Walk.{Unsealed}
-use Rattle.opening.proofs.Open.{view-range, view-leaf, whole-genuine}
+use Rattle.opening.proofs.Open.{opens-given, view-range, view-leaf, whole-genuine}
 use Rattle.opening.proofs.open_path.Goals as goal
 
 pub reach-n-requires : goal.reach-n-requires
@@ -37,8 +37,7 @@ returns c =
     let e = c.requires.open_desk.1.0 in
     let r = c.reach-n.ensures in
     let u = c.open_slots.ensures in
-    record {
-      count = subst (λ (v : View). Reached v a.path.now c.reach-n.result) e r;
-      good = whole-genuine a.desk.now a.path.now c.digests_good-d.result c.flags_good-f.result c.slots_good-s.result a.v e c.digests_good-d.ensures c.flags_good-f.ensures (c.slots_good-s.ensures a.path.now r u);
-      opened = subst (λ (v : View). Unsealed v a.path.now c.reach-n.result c.open_slots.new.w) e u;
-    }
+    let passed = whole-genuine a.desk.now a.path.now c.digests_good-d.result c.flags_good-f.result c.slots_good-s.result a.v e c.digests_good-d.ensures c.flags_good-f.ensures (c.slots_good-s.ensures a.path.now r u) in
+    rw c.then_some.ensures
+    (opens-given a.desk.now a.path.now c.open_slots.new.w _ c.reach-n.result passed (subst (λ (v : View). Reached v a.path.now c.reach-n.result) e r)
+    (subst (λ (v : View). Unsealed v a.path.now c.reach-n.result c.open_slots.new.w) e u))

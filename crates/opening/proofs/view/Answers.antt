@@ -16,5 +16,5 @@ returns c =
     let q = part a.desk.now root_at digest_len in
     let key = c.copy.ensures ∙ splice-whole (zeros key_len) p (length_part a.desk.now b_at key_len (omega (arith, w.size)) ∙ length-zeros key_len) in
     let root = c.copy-2.ensures ∙ splice-whole (zeros digest_len) q (length_part a.desk.now root_at digest_len (omega (arith, w.size)) ∙ length-zeros digest_len) in
-    let leaf = c.position-leaf.ensures ∙ ap (position_of a.desk.now) c.id_asked.ensures in
-    rw (c.sizes_of-s.ensures, key, root, leaf)
+    let leaf = c.from.ensures ∙ c.position.ensures ∙ ap (position_of a.desk.now) c.id_asked.ensures in
+    rw (c.sizes_of.ensures, key, root, leaf)

@@ -1,42 +1,51 @@
--- `opening::table::item_good` meets its contract: j slots were walked, and the rest is walked from there. Assumes nothing.
-use Prim.Native.Nat.{◌+◌, ◌-◌, ◌*◌}
-use mathlib.Core.Path.{◌≡◌, ◌∙◌, subst}
-use mathlib.Core.Bool.{Bool, true, false}
+-- `opening::table::item_good` meets its contract: some slots were walked, and the rest is walked from there. Assumes nothing.
+use mathlib.Core.Bool.{Bool}
+use mathlib.Core.Path.{◌≡◌, subst}
+use mathlib.Core.List.{List}
 use native.Mathlib.Omega.{arith}
-use Rattle.sizes.specs.Sizes.{record_len}
-use Rattle.slots.specs.Slots.{block_by}
-use Rattle.words.specs.Bytes.{part}
+use lib.ListN.{length}
+use Rattle.sizes.specs.Sizes.{record_len, slot_len}
+use Rattle.slots.specs.Slots.{Block, block_by, blocks_of}
+use Rattle.placing.proofs.Laid.{slot-next, rest-long, no-slots, slots-over}
 use Rattle.opening.specs.Walk.{Looked}
-use Rattle.opening.proofs.Walk.{walked_none, walked_next, walked-fails, walked_end}
+use Rattle.opening.proofs.Walk.{Run, run_step, run-fails, run_end}
 use Rattle.opening.proofs.table.item_good.Goals as goal
-
-pub loop-j-init : goal.loop-j-init
-loop-j-init c = let a = c.args in ((omega arith, c.requires.slots_len.1), walked_none a.desk.now a.k record_len a.v.sizes.slots a.slots.now a.seen.now)
 
 pub returns-then-not-slot_good : goal.returns-then-not-slot_good
 returns-then-not-slot_good c =
-    let looked : (r : Bool) → c.slot_good.result ≡ r → let a = c.args in let j = c.loop-j.j in Looked a.desk.now a.k (block_by record_len (part a.slots.now (68 * j) (68 * j + 68 - 68 * j))) c.loop-j.seen c.slot_good.new.seen r = λ r e. let a = c.args in
-    let j = c.loop-j.j in
-    subst (λ (r : Bool). Looked a.desk.now a.k (block_by record_len (part a.slots.now (68 * j) (68 * j + 68 - 68 * j))) c.loop-j.seen c.slot_good.new.seen r) e c.slot_good.ensures in
     let a = c.args in
-    let l = c.loop-j in
-    walked-fails a.desk.now a.k record_len a.v.sizes.slots a.slots.now l.j (68 * l.j + 68 - 68 * l.j) a.seen.now l.seen c.slot_good.new.seen c.loop-j-test.true (omega arith) l.invariant.1
-    (looked false (c.if-not-slot_good.true))
+    let l = c.loop-slot in
+    let s = l.slot-iterator in
+    let t = c.next.new.self in
+    let slot = c.in-Some.slot.now in
+    let e = c.in-Some.ensures.steps in
+    let all = blocks_of a.v.sizes.slots a.slots.now in
+    let long : length slot ≡ slot_len = omega (arith, e.0.1.1, l.invariant.0) in
+    let run = subst (λ (bs : List Block). Run a.desk.now a.k all bs a.seen.now l.seen) (slot-next s.iter.rest.now slot t.iter.rest.now e.0.1.0 long s.n t.n e.1) l.invariant.2 in
+    run-fails a.desk.now a.k all (block_by record_len slot) (blocks_of t.n t.iter.rest.now) a.seen.now l.seen c.slot_good.new.seen run
+    (subst (λ (r : Bool). Looked a.desk.now a.k (block_by record_len slot) l.seen c.slot_good.new.seen r) c.if-not-slot_good.true c.slot_good.ensures)
 
-pub loop-j-preserved : goal.loop-j-preserved
-loop-j-preserved c =
-    let looked : (r : Bool) → c.slot_good.result ≡ r → let a = c.args in let j = c.loop-j.j in Looked a.desk.now a.k (block_by record_len (part a.slots.now (68 * j) (68 * j + 68 - 68 * j))) c.loop-j.seen c.slot_good.new.seen r = λ r e. let a = c.args in
-    let j = c.loop-j.j in
-    subst (λ (r : Bool). Looked a.desk.now a.k (block_by record_len (part a.slots.now (68 * j) (68 * j + 68 - 68 * j))) c.loop-j.seen c.slot_good.new.seen r) e c.slot_good.ensures in
+pub loop-slot-preserved : goal.loop-slot-preserved
+loop-slot-preserved c =
     let a = c.args in
-    let l = c.loop-j in (
-      (omega arith, c.slot_good.auto.seen ∙ l.invariant.0.1),
-      walked_next a.desk.now a.k record_len a.v.sizes.slots a.slots.now l.j (68 * l.j + 68 - 68 * l.j) a.seen.now l.seen c.slot_good.new.seen c.loop-j-test.true (omega arith) l.invariant.1
-          (looked true (c.if-not-slot_good.false)),
+    let l = c.loop-slot in
+    let s = l.slot-iterator in
+    let t = c.next.new.self in
+    let slot = c.in-Some.slot.now in
+    let e = c.in-Some.ensures.steps in
+    let all = blocks_of a.v.sizes.slots a.slots.now in
+    let long : length slot ≡ slot_len = omega (arith, e.0.1.1, l.invariant.0) in
+    let run = subst (λ (bs : List Block). Run a.desk.now a.k all bs a.seen.now l.seen) (slot-next s.iter.rest.now slot t.iter.rest.now e.0.1.0 long s.n t.n e.1) l.invariant.2 in (
+      cc,
+      rest-long s.iter.rest.now slot t.iter.rest.now e.0.1.0 long s.n t.n e.1 l.invariant.1,
+      run_step a.desk.now a.k all (block_by record_len slot) (blocks_of t.n t.iter.rest.now) a.seen.now l.seen c.slot_good.new.seen run
+          (subst (λ (r : Bool). Looked a.desk.now a.k (block_by record_len slot) l.seen c.slot_good.new.seen r) c.if-not-slot_good.false c.slot_good.ensures),
     )
 
 pub returns : goal.returns
 returns c =
     let a = c.args in
-    let l = c.loop-j in
-    walked_end a.desk.now a.k record_len a.v.sizes.slots a.slots.now l.j a.seen.now l.seen c.loop-j-test.false l.invariant.1
+    let l = c.loop-slot in
+    let s = l.slot-iterator in
+    let over = slots-over s.n s.iter.rest.now l.invariant.1 (λ p. omega (arith, (c.in-None.ensures.steps p).1.0, l.invariant.0)) in
+    run_end a.desk.now a.k (blocks_of a.v.sizes.slots a.slots.now) (blocks_of s.n s.iter.rest.now) a.seen.now l.seen (no-slots s.iter.rest.now s.n over) l.invariant.2

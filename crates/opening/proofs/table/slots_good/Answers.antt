@@ -26,7 +26,7 @@ pub loop-k-init : goal.loop-k-init
 loop-k-init c =
     let a = c.args in
     let s : Seen c.ids_seen-seen.result (stash_of a.desk.now) = rw (c.stash_slots.ensures, c.stash_count.ensures) at c.ids_seen-seen.ensures in
-    ((omega arith, s.size), walks-none a.desk.now a.w.now a.n c.ids_seen-seen.result s)
+    (s.size, walks-none a.desk.now a.w.now a.n c.ids_seen-seen.result s)
 
 pub slots-requires : goal.slots-requires
 slots-requires c =
@@ -39,7 +39,7 @@ item_good-requires c =
     let a = c.args in
     let p = c.requires in
     let l = c.loop-k in
-    let k : l.k ≤ a.v.sizes.height = omega (arith, p.open_desk.1.1, c.loop-k-test.true) in record { open_desk = (p.open_desk.0, (p.open_desk.1.0, k)); slots_len = (ap length c.slots.ensures ∙ carried-slots a.v.sizes a.w.now l.k (copy-carries a.desk.now p.open_desk.0 a.v a.w.now p.open_desk.1.0 p.w_len) k, l.invariant.0.1) }
+    let k : l.k ≤ a.v.sizes.height = omega (arith, p.open_desk.1.1, c.loop-k-test.true) in record { open_desk = (p.open_desk.0, (p.open_desk.1.0, k)); slots_len = (ap length c.slots.ensures ∙ carried-slots a.v.sizes a.w.now l.k (copy-carries a.desk.now p.open_desk.0 a.v a.w.now p.open_desk.1.0 p.w_len) k, l.invariant.0) }
 
 pub returns-then-not-item_good : goal.returns-then-not-item_good
 returns-then-not-item_good c =
@@ -67,7 +67,7 @@ loop-k-preserved c =
     (subst (λ (xs : List ℕ). Walked a.desk.now l.k (blocks_of a.v.sizes.slots xs) l.seen z c.item_good.result) c.slots.ensures c.item_good.ensures)) in
     let a = c.args in
     let l = c.loop-k in (
-      (omega arith, c.item_good.auto.seen ∙ l.invariant.0.1),
+      c.item_good.auto.seen ∙ l.invariant.0,
       λ path r u.
           walks_next a.desk.now a.w.now a.n l.seen c.item_good.new.seen l.k c.loop-k-test.true l.invariant.1 path r u
           (walked true (c.if-not-item_good.false)),
