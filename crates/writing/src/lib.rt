@@ -26,7 +26,7 @@ fn next_counter(path: &[u8], v: View, n: usize, k: usize) -> u64
     if n <= k {
         return 1;
     }
-    std::num::wrapping_add_u64(items::counter(path, v.sizes, k), 1)
+    items::counter(path, v.sizes, k).wrapping_add(1)
 }
 
 // Counter and slots of the item at level `k`.
@@ -103,12 +103,9 @@ pub fn write_path(path: &mut [u8], new: &[u8], v: View, n: usize) -> [u8; Sizes:
 {
     let s = v.sizes;
     let mut d = [0u8; Sizes::DIGEST];
-    let mut k = s.height + 1;
-    while 0 < k {
-        k -= 1;
+    for k in (0..s.height + 1).rev() {
         write_item(path, new, v, n, k, &d);
-        let above = items::item_digest(path, s, k);
-        d = above;
+        d = items::item_digest(path, s, k);
     }
     d
 }

@@ -11,4 +11,4 @@ returns-then-n-k c = rw (c.requires.1.1 ∙ le-ltb _ _ c.if-n-k.true)
 pub returns : goal.returns
 returns c =
     rw (c.requires.1.1 ∙ lt-ltb _ _ c.if-n-k.false)
-    (ap (bytes_of counter_len) c.wrapping_add_u64.ensures.value ∙ bytes_of-rest 8 _ ∙ ap (λ (n : ℕ). bytes_of counter_len (n + 1)) c.counter.ensures)
+    (bytes_of-rest 8 _ ∙ ap (λ (n : ℕ). bytes_of counter_len (n + 1)) c.counter.ensures)

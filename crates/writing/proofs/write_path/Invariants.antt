@@ -1,11 +1,8 @@
 -- `writing::write_path` meets its contract: from the leaf up, each turn writes one item more of the path that step 6 makes of the one lent. Assumes nothing.
-use Rattle.std.proofs.Common.{◌≡◌, ◌+◌, ◌≤◌, length}
+use Rattle.std.proofs.Common.{◌≡◌, length}
 use Rattle.sizes.specs.Sizes.{digest_len}
 use Rattle.writing.specs.Pieces.{Climbed}
 use Rattle.writing.proofs.write_path.Given as goal
 
 abbrev pub invariant-loop-k : goal.invariant-loop-k
-invariant-loop-k l = ((l.k ≤ l.v.sizes.height + 1) × (length l.path ≡ length l.initial.path)) × ((length l.d ≡ digest_len) × Climbed l.v l.initial.path l.new l.path l.d l.k)
-
-abbrev pub decreases-loop-k : goal.decreases-loop-k
-decreases-loop-k l = l.k
+invariant-loop-k l = (length l.d ≡ digest_len) × Climbed l.v l.initial.path l.new l.path l.d l.k
