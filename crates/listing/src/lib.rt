@@ -1,7 +1,7 @@
 // The listing's lines, written into a buffer from a place on; each function answers with the place after what it wrote. Assumes nothing.
 #![tactic(auto)]
 
-ghost use Rattle.std.specs.Prelude.{◌≡◌, ◌+◌, ◌≤◌, length};
+ghost use Rattle.std.specs.Prelude.{◌≡◌, ◌+◌, ◌≤◌, length, Option};
 ghost use Rattle.sizes.specs.Sizes.{record_len};
 ghost use Rattle.text.specs.Text.{write_word, refused_word, record_word, header_line, bad_line};
 ghost use Rattle.listing.specs.Listing as spec;
@@ -16,13 +16,6 @@ pub const MOST_DECIMAL: usize = 20;
 
 // The most bytes of a line of the listing.
 pub const MOST_ROW: usize = 141;
-
-// The leaf asked for.
-#[derive(Clone, Copy, Drop)]
-pub enum Shown {
-    Leaf(u16),
-    Nothing,
-}
 
 // What the listing says of a request.
 #[derive(Clone, Copy, Drop)]
@@ -50,6 +43,7 @@ pub fn decimal(out: &mut [u8], at: usize, x: u64) -> usize
     let mut text = [0u8; MOST_DECIMAL];
     let mut i = MOST_DECIMAL - 1;
     let mut y = x;
+    // Not a `for`: how many turns there are is the number of digits, which only the last turn shows.
     while numbers::TEN <= y {
         text[i] = numbers::ZERO + (y % numbers::TEN) as u8;
         y = y / numbers::TEN;
@@ -64,20 +58,21 @@ fn put_kind(out: &mut [u8], at: usize, kind: Kind) -> usize
     requires { at + length write_word ≤ length out.old }
     ensures { Wrote out.old at (kind_text kind) out.new result × (result ≤ at + length write_word) }
 {
-    match kind {
-        Kind::Read => put(out, at, b"read "),
-        Kind::Write => put(out, at, b"write "),
-    }
+    let word: &[u8] = match kind {
+        Kind::Read => b"read ",
+        Kind::Write => b"write ",
+    };
+    put(out, at, word)
 }
 
 // The leaf asked for; nothing was asked where the ask itself was refused.
-fn put_leaf(out: &mut [u8], at: usize, leaf: Shown) -> usize
+fn put_leaf(out: &mut [u8], at: usize, leaf: Option<u16>) -> usize
     requires { at + most_decimal ≤ length out.old }
     ensures { Wrote out.old at (leaf_text leaf) out.new result × (result ≤ at + most_decimal) }
 {
     match leaf {
-        Shown::Leaf(l) => decimal(out, at, l as u64),
-        Shown::Nothing => put(out, at, b"-"),
+        Some(l) => decimal(out, at, u64::from(l)),
+        None => put(out, at, b"-"),
     }
 }
 
@@ -86,7 +81,7 @@ fn put_refused(out: &mut [u8], at: usize, r: Refusal) -> usize
     ensures { Wrote out.old at (spec.refused_text r) out.new result × (result ≤ at + length refused_word + most_decimal) }
 {
     let next = put(out, at, b"refused ");
-    decimal(out, next, sizes::number(r) as u64)
+    decimal(out, next, u64::from(sizes::number(r)))
 }
 
 // A text has no zeros, so that what stands before the first one is the text.
@@ -119,7 +114,7 @@ fn put_request(out: &mut [u8], n: u64, kind: Kind, id: u16) -> usize
     let mut at = decimal(out, 0, n);
     at = put(out, at, b" ");
     at = put_kind(out, at, kind);
-    at = decimal(out, at, id as u64);
+    at = decimal(out, at, u64::from(id));
     put(out, at, b" ")
 }
 
@@ -129,7 +124,7 @@ pub fn row(
     n: u64,
     kind: Kind,
     id: u16,
-    leaf: Shown,
+    leaf: Option<u16>,
     answer: Answer,
     record: &[u8],
 ) -> usize

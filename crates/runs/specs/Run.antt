@@ -1,5 +1,5 @@
 -- The run of a script: what each line does to the shelf's buffers, and what it adds to the listing. Assumes nothing.
-use Rattle.std.specs.Prelude.{ℕ, ◌+◌, ◌^◌, ◌≤◌, ◌<◌, ◌≡◌, Bool, true, false, List, [], length, take, drop}
+use Rattle.std.specs.Prelude.{ℕ, ◌+◌, ◌^◌, ◌≤◌, ◌<◌, ◌≡◌, Bool, true, false, List, [], length, take, drop, Option, Some, None}
 use Rattle.sizes.specs.declared.Outcome.{Outcome}
 use Rattle.sizes.specs.declared.Outcome.TheVariants as outcome
 use Rattle.sizes.specs.Sizes.{InRange, record_len, most_ids}
@@ -14,10 +14,8 @@ use Rattle.requests.specs.Request as requests
 use Rattle.text.specs.Text.{bad_line}
 use Rattle.setup.specs.declared.Store.{Store}
 use Rattle.setup.specs.Setup.{store_of, start_good, start_leaves, most_shelf_height}
-use Rattle.script.specs.declared.Line.{Line}
-use Rattle.script.specs.declared.Line.TheVariants as line
+use Rattle.script.specs.declared.Request.{Request}
 use Rattle.script.specs.Lines.{request_of, record_of}
-use Rattle.listing.specs.declared.Shown.TheVariants as shown
 use Rattle.listing.specs.declared.Answer.{Answer}
 use Rattle.listing.specs.declared.Answer.TheVariants as answer
 use Rattle.listing.specs.Listing.{Wrote, most_row, row_of, format_row}
@@ -79,8 +77,8 @@ answer_of (finished.Refused r) = answer.Refused r
 
 -- the leaf is shown if one was asked for
 abbrev pub row_for : Answered → ℕ → Kind → ℕ → List ℕ → List ℕ
-row_for (answered.Refused r) n kind id buffer = row_of n kind id shown.Nothing (answer.Refused r) buffer
-row_for (answered.Asked l f) n kind id buffer = row_of n kind id (shown.Leaf l) (answer_of f) buffer
+row_for (answered.Refused r) n kind id buffer = row_of n kind id None (answer.Refused r) buffer
+row_for (answered.Asked l f) n kind id buffer = row_of n kind id (Some l) (answer_of f) buffer
 
 -- the request over what the store has of the buffers, and what they hold after it
 abbrev pub request_on : Store → Kind → ℕ → ℕ → List ℕ → Shelf → RequestResult
@@ -100,9 +98,9 @@ after_request q x sh =
 abbrev pub answer_step : RequestResult → Store → ℕ → Kind → ℕ → Shelf → Moved
 answer_step q x k kind id sh = moved (run.Ready x k) (row_for q.answer k kind id q.buffer) (after_request q x sh)
 
-abbrev pub request_step : Line → Store → ℕ → List ℕ → Shelf → Moved
-request_step (line.Request kind id leaf text) x k xs sh = answer_step (request_on x kind id leaf (record_of (drop text xs)) sh) x (k + 1) kind id sh
-request_step line.Bad x k xs sh = bad_step sh
+abbrev pub request_step : Option Request → Store → ℕ → List ℕ → Shelf → Moved
+request_step (Some q) x k xs sh = answer_step (request_on x q.kind q.id q.leaf (record_of (drop q.text xs)) sh) x (k + 1) q.kind q.id sh
+request_step None x k xs sh = bad_step sh
 
 -- ---- a line, by where the run stands
 

@@ -9,9 +9,9 @@ ghost use Rattle.runs.specs.Run.{Holds, Ready, Answers, Became, request_on, requ
 use crate::run::{Run, Step};
 use crate::{lengths, run};
 use desk::Kind;
-use listing::{Answer, Shown};
+use listing::Answer;
 use requests::Answered;
-use script::Line;
+use script::Request;
 use setup::Store;
 use store::Finished;
 
@@ -33,21 +33,13 @@ fn put_row(out: &mut [u8], n: u64, kind: Kind, id: u16, answered: Answered, reco
     ensures { Wrote out.old 0 (row_for answered n kind id «record».now) out.new result × (result ≤ most_row) }
 {
     match answered {
-        Answered::Refused(r) => listing::row(
-            out,
-            n,
-            kind,
-            id,
-            Shown::Nothing,
-            Answer::Refused(r),
-            record,
-        ),
+        Answered::Refused(r) => listing::row(out, n, kind, id, None, Answer::Refused(r), record),
         Answered::Asked { leaf, finished } => listing::row(
             out,
             n,
             kind,
             id,
-            Shown::Leaf(leaf),
+            Some(leaf),
             answer_of(finished),
             record,
         ),
@@ -96,22 +88,21 @@ pub fn ready(
     requires { Ready store count desk.old tree.old path.old «record».old out.old }
     ensures { Became (request_step (request_of line.now) store count line.now (shelf desk.old tree.old path.old «record».old [])) out.old out.new result.run result.written (shelf desk.new tree.new path.new «record».new []) }
 {
-    match script::request_line(line) {
-        Line::Bad => run::bad(out),
-        Line::Request {
-            kind,
-            id,
-            leaf,
-            text,
-        } => {
-            script::lay_text(record, &line[text..]);
-            let answered = answer(store, kind, id, leaf, desk, tree, path, record);
-            let n = count + 1;
-            let written = put_row(out, n, kind, id, answered, record);
-            Step {
-                run: Run::Ready { store, count: n },
-                written,
-            }
-        }
+    let Some(request) = script::request_line(line) else {
+        return run::bad(out);
+    };
+    let Request {
+        kind,
+        id,
+        leaf,
+        text,
+    } = request;
+    script::lay_text(record, &line[text..]);
+    let answered = answer(store, kind, id, leaf, desk, tree, path, record);
+    let n = count + 1;
+    let written = put_row(out, n, kind, id, answered, record);
+    Step {
+        run: Run::Ready { store, count: n },
+        written,
     }
 }
