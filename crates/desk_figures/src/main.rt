@@ -2,9 +2,8 @@
 // and the starting leaves 3, 0, 1 where a line says nothing else. Assumes nothing.
 #![tactic(auto)]
 
-use asks::Asked;
-use desk::Kind;
-use sizes::{Outcome, Refusal};
+use desk::{Kind, Status};
+use sizes::Refusal;
 use std::io;
 use std::io::Write;
 
@@ -12,20 +11,20 @@ use std::io::Write;
 const DESK: usize = 331;
 
 fn put_refusal(out: &mut impl Write, r: Refusal) -> io::Result<()> {
-    writeln!(out, "refused {}", sizes::number(r))
+    writeln!(out, "refused {}", u8::from(r))
 }
 
-fn put_outcome(out: &mut impl Write, o: Outcome) -> io::Result<()> {
+fn put_outcome(out: &mut impl Write, o: Result<(), Refusal>) -> io::Result<()> {
     match o {
-        Outcome::Done => writeln!(out, "done"),
-        Outcome::Refused(r) => put_refusal(out, r),
+        Ok(()) => writeln!(out, "done"),
+        Err(r) => put_refusal(out, r),
     }
 }
 
-fn put_asked(out: &mut impl Write, a: Asked) -> io::Result<()> {
+fn put_asked(out: &mut impl Write, a: Result<u16, Refusal>) -> io::Result<()> {
     match a {
-        Asked::Leaf(leaf) => writeln!(out, "leaf {leaf}"),
-        Asked::Refused(r) => put_refusal(out, r),
+        Ok(leaf) => writeln!(out, "leaf {leaf}"),
+        Err(r) => put_refusal(out, r),
     }
 }
 
@@ -75,7 +74,7 @@ fn ask_lines(out: &mut impl Write) -> io::Result<()> {
         ("read id 1, buffer of 63", Kind::Read, 1, 2, short),
     ] {
         let mut buffer = [255u8; DESK];
-        formats::format(&mut buffer, 2, 1, 2, 3, &key, &starts);
+        let _ = formats::format(&mut buffer, 2, 1, 2, 3, &key, &starts);
         write!(out, "{what}: ")?;
         put_asked(out, asks::ask(&mut buffer, kind, id, leaf, record))?;
     }
@@ -90,12 +89,12 @@ fn open_lines(out: &mut impl Write) -> io::Result<()> {
     let record = [9u8; 64];
     write!(out, "ask, desk never formatted: ")?;
     put_asked(out, asks::ask(&mut buffer, Kind::Read, 1, 0, &record))?;
-    formats::format(&mut buffer, 2, 1, 2, 3, &key, &starts);
+    let _ = formats::format(&mut buffer, 2, 1, 2, 3, &key, &starts);
     write!(out, "ask id 2: ")?;
     put_asked(out, asks::ask(&mut buffer, Kind::Write, 2, 3, &record))?;
     write!(out, "ask again, desk open: ")?;
     put_asked(out, asks::ask(&mut buffer, Kind::Read, 2, 3, &record))?;
-    buffer[desk::STATUS] = desk::FORGED;
+    buffer[desk::STATUS] = u8::from(Status::Forged);
     write!(out, "ask again, desk stopped as forged: ")?;
     put_asked(out, asks::ask(&mut buffer, Kind::Read, 2, 3, &record))
 }

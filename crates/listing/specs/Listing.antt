@@ -1,5 +1,5 @@
 -- What a line of the listing says: request number, kind, id, leaf asked for, answer. Assumes nothing.
-use Rattle.std.specs.Prelude.{ℕ, zero, suc, ◌+◌, ◌/◌, ◌%◌, ◌≡◌, cond, List, [], ◌∷◌, ◌++◌, length, ltb}
+use Rattle.std.specs.Prelude.{ℕ, zero, suc, ◌+◌, ◌/◌, ◌%◌, ◌≡◌, cond, List, [], ◌∷◌, ◌++◌, length, ltb, Option, Some, None, Result, Ok, Err}
 use Rattle.words.specs.Bytes.{splice}
 use Rattle.sizes.specs.Sizes.{record_len}
 use Rattle.sizes.specs.declared.Refusal.{Refusal}
@@ -8,10 +8,8 @@ use Rattle.desk.specs.declared.Kind.{Kind}
 use Rattle.desk.specs.declared.Kind.TheVariants.{Read, Write}
 use Rattle.text.specs.Text.{line_feed, space, write_word, read_word, dash, done_word, never_word, record_word, refused_word, format_word}
 use Rattle.text.specs.Fronts.{zero_digit, ten, before}
-use Rattle.listing.specs.declared.Shown.{Shown}
-use Rattle.listing.specs.declared.Shown.TheVariants.{Leaf, Nothing}
-use Rattle.listing.specs.declared.Answer.{Answer}
-use Rattle.listing.specs.declared.Answer.TheVariants.{Record, Never, Done, Refused}
+use Rattle.store.specs.declared.Finished.{Finished}
+use Rattle.store.specs.declared.Finished.TheVariants as finished
 
 -- the decimal digits of x, the highest first, at most n of them
 unfoldable pub digits_up_to : ℕ → ℕ → List ℕ
@@ -36,9 +34,9 @@ abbrev pub kind_text : Kind → List ℕ
 kind_text Read = read_word
 kind_text Write = write_word
 
-abbrev pub leaf_text : Shown → List ℕ
-leaf_text (Leaf l) = decimal l
-leaf_text Nothing = dash
+abbrev pub leaf_text : Option ℕ → List ℕ
+leaf_text (Some l) = decimal l
+leaf_text None = dash
 
 abbrev pub refused_text : Refusal → List ℕ
 refused_text r = refused_word ++ decimal (number_of r)
@@ -47,18 +45,18 @@ refused_text r = refused_word ++ decimal (number_of r)
 abbrev pub record_text : List ℕ → List ℕ
 record_text «record» = record_word ++ before 0 «record»
 
-abbrev pub answer_text : Answer → List ℕ → List ℕ
-answer_text Record «record» = record_text «record»
-answer_text Never «record» = never_word
-answer_text Done «record» = done_word
-answer_text (Refused r) «record» = refused_text r
+abbrev pub answer_text : Result Finished Refusal → List ℕ → List ℕ
+answer_text (Ok finished.Record) «record» = record_text «record»
+answer_text (Ok finished.Never) «record» = never_word
+answer_text (Ok finished.Done) «record» = done_word
+answer_text (Err r) «record» = refused_text r
 
 -- ---- the lines
 
 abbrev pub request_text : ℕ → Kind → ℕ → List ℕ
 request_text n kind id = decimal n ++ (space ∷ []) ++ kind_text kind ++ decimal id ++ (space ∷ [])
 
-abbrev pub row_of : ℕ → Kind → ℕ → Shown → Answer → List ℕ → List ℕ
+abbrev pub row_of : ℕ → Kind → ℕ → Option ℕ → Result Finished Refusal → List ℕ → List ℕ
 row_of n kind id leaf answer «record» =
     request_text n kind id ++ leaf_text leaf ++ (space ∷ []) ++ answer_text answer «record» ++ (line_feed ∷ [])
 

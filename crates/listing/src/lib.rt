@@ -1,7 +1,7 @@
 // The listing's lines, written into a buffer from a place on; each function answers with the place after what it wrote. Assumes nothing.
 #![tactic(auto)]
 
-ghost use Rattle.std.specs.Prelude.{◌≡◌, ◌+◌, ◌≤◌, length};
+ghost use Rattle.std.specs.Prelude.{◌≡◌, ◌+◌, ◌≤◌, length, Option};
 ghost use Rattle.sizes.specs.Sizes.{record_len};
 ghost use Rattle.text.specs.Text.{write_word, refused_word, record_word, header_line, bad_line};
 ghost use Rattle.listing.specs.Listing as spec;
@@ -9,6 +9,7 @@ ghost use Rattle.listing.specs.Listing.{Wrote, most_decimal, most_request, most_
 
 use desk::Kind;
 use sizes::Refusal;
+use store::Finished;
 use text::{bytes, numbers};
 
 // The most digits of a number of 64 bits.
@@ -16,22 +17,6 @@ pub const MOST_DECIMAL: usize = 20;
 
 // The most bytes of a line of the listing.
 pub const MOST_ROW: usize = 141;
-
-// The leaf asked for.
-#[derive(Clone, Copy, Drop)]
-pub enum Shown {
-    Leaf(u16),
-    Nothing,
-}
-
-// What the listing says of a request.
-#[derive(Clone, Copy, Drop)]
-pub enum Answer {
-    Record,
-    Never,
-    Done,
-    Refused(Refusal),
-}
 
 // Bytes as they are: the fixed strings, and a record's text.
 pub fn put(out: &mut [u8], at: usize, bytes: &[u8]) -> usize
@@ -50,6 +35,7 @@ pub fn decimal(out: &mut [u8], at: usize, x: u64) -> usize
     let mut text = [0u8; MOST_DECIMAL];
     let mut i = MOST_DECIMAL - 1;
     let mut y = x;
+    // Not a `for`: how many turns there are is the number of digits, which only the last turn shows.
     while numbers::TEN <= y {
         text[i] = numbers::ZERO + (y % numbers::TEN) as u8;
         y = y / numbers::TEN;
@@ -64,20 +50,21 @@ fn put_kind(out: &mut [u8], at: usize, kind: Kind) -> usize
     requires { at + length write_word ≤ length out.old }
     ensures { Wrote out.old at (kind_text kind) out.new result × (result ≤ at + length write_word) }
 {
-    match kind {
-        Kind::Read => put(out, at, b"read "),
-        Kind::Write => put(out, at, b"write "),
-    }
+    let word: &[u8] = match kind {
+        Kind::Read => b"read ",
+        Kind::Write => b"write ",
+    };
+    put(out, at, word)
 }
 
 // The leaf asked for; nothing was asked where the ask itself was refused.
-fn put_leaf(out: &mut [u8], at: usize, leaf: Shown) -> usize
+fn put_leaf(out: &mut [u8], at: usize, leaf: Option<u16>) -> usize
     requires { at + most_decimal ≤ length out.old }
     ensures { Wrote out.old at (leaf_text leaf) out.new result × (result ≤ at + most_decimal) }
 {
     match leaf {
-        Shown::Leaf(l) => decimal(out, at, l as u64),
-        Shown::Nothing => put(out, at, b"-"),
+        Some(l) => decimal(out, at, u64::from(l)),
+        None => put(out, at, b"-"),
     }
 }
 
@@ -86,7 +73,7 @@ fn put_refused(out: &mut [u8], at: usize, r: Refusal) -> usize
     ensures { Wrote out.old at (spec.refused_text r) out.new result × (result ≤ at + length refused_word + most_decimal) }
 {
     let next = put(out, at, b"refused ");
-    decimal(out, next, u8::from(r) as u64)
+    decimal(out, next, u64::from(u8::from(r)))
 }
 
 // A text has no zeros, so that what stands before the first one is the text.
@@ -99,15 +86,15 @@ fn put_record(out: &mut [u8], at: usize, record: &[u8]) -> usize
     put(out, next, &record[..n])
 }
 
-fn put_answer(out: &mut [u8], at: usize, answer: Answer, record: &[u8]) -> usize
+fn put_answer(out: &mut [u8], at: usize, answer: Result<Finished, Refusal>, record: &[u8]) -> usize
     requires { (at + length record_word + record_len ≤ length out.old) × (length «record».now ≡ record_len) }
     ensures { Wrote out.old at (answer_text answer «record».now) out.new result × (result ≤ at + length record_word + record_len) }
 {
     match answer {
-        Answer::Record => put_record(out, at, record),
-        Answer::Never => put(out, at, b"never"),
-        Answer::Done => put(out, at, b"done"),
-        Answer::Refused(r) => put_refused(out, at, r),
+        Ok(Finished::Record) => put_record(out, at, record),
+        Ok(Finished::Never) => put(out, at, b"never"),
+        Ok(Finished::Done) => put(out, at, b"done"),
+        Err(r) => put_refused(out, at, r),
     }
 }
 
@@ -119,7 +106,7 @@ fn put_request(out: &mut [u8], n: u64, kind: Kind, id: u16) -> usize
     let mut at = decimal(out, 0, n);
     at = put(out, at, b" ");
     at = put_kind(out, at, kind);
-    at = decimal(out, at, id as u64);
+    at = decimal(out, at, u64::from(id));
     put(out, at, b" ")
 }
 
@@ -129,8 +116,8 @@ pub fn row(
     n: u64,
     kind: Kind,
     id: u16,
-    leaf: Shown,
-    answer: Answer,
+    leaf: Option<u16>,
+    answer: Result<Finished, Refusal>,
     record: &[u8],
 ) -> usize
     requires { (most_row ≤ length out.old) × (length «record».now ≡ record_len) }

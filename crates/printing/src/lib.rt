@@ -33,8 +33,7 @@ fn put_entries(out: &mut [u8], from: usize, chapter: u8, n: usize, sheet: &[u8])
     ensures { Wrote out.old from (entries_text chapter n 0 sheet.now) out.new result × (result ≤ from + n * line_room) }
 {
     let mut at = from;
-    let mut i = 0;
-    while i < n {
+    for i in 0..n {
         let start = i * Sizes::RECORD;
         at = put_entry(
             out,
@@ -43,7 +42,6 @@ fn put_entries(out: &mut [u8], from: usize, chapter: u8, n: usize, sheet: &[u8])
             i + 1,
             &sheet[start..start + Sizes::RECORD],
         );
-        i += 1;
     }
     at
 }

@@ -5,7 +5,6 @@ ghost use Rattle.verdicts.specs.Verdict.{most_name};
 ghost use Rattle.lines.specs.Words.{not_ok_word, todo_text};
 ghost use Rattle.printing.specs.Printed.{version_text, plan_text, kind_text, directive_text, verdict_text, is_printable, head_room, line_room, room_of};
 
-use text::bytes;
 use verdicts::Verdict;
 
 // The most bytes of version and plan, and of a line for a verdict.
@@ -25,7 +24,7 @@ pub fn room(n: usize) -> usize
 pub fn is_printable(name: &[u8]) -> bool
     ensures { result ≡ is_printable name.now }
 {
-    bytes::before(name, window::LINE_FEED) == name.len()
+    !name.contains(&window::LINE_FEED)
 }
 
 // Version and plan. A number is put where twenty digits have room, so that the room of a line must follow.
@@ -43,10 +42,8 @@ fn put_kind(out: &mut [u8], at: usize, verdict: Verdict) -> usize
     ensures { Wrote out.old at (kind_text verdict) out.new result × (result ≤ at + length not_ok_word) }
 {
     match verdict {
-        Verdict::Pass => listing::put(out, at, b"ok "),
-        Verdict::Fail => listing::put(out, at, b"not ok "),
-        Verdict::Skipped => listing::put(out, at, b"ok "),
-        Verdict::Error => listing::put(out, at, b"not ok "),
+        Verdict::Pass | Verdict::Skipped => listing::put(out, at, b"ok "),
+        Verdict::Fail | Verdict::Error => listing::put(out, at, b"not ok "),
     }
 }
 
@@ -55,8 +52,7 @@ fn put_directive(out: &mut [u8], at: usize, verdict: Verdict) -> usize
     ensures { Wrote out.old at (directive_text verdict) out.new result × (result ≤ at + length todo_text) }
 {
     match verdict {
-        Verdict::Pass => at,
-        Verdict::Fail => at,
+        Verdict::Pass | Verdict::Fail => at,
         Verdict::Skipped => listing::put(out, at, b" # SKIP"),
         Verdict::Error => listing::put(out, at, b" # TODO"),
     }

@@ -13,8 +13,7 @@ use Rattle.setup.specs.declared.Store.{Store}
 use Rattle.std.specs.Prelude.{Option, Some, None}
 use Rattle.setup.specs.Setup.{store_of, start_good, start_leaves}
 use Rattle.setup.proofs.Bounds.{store-fits}
-use Rattle.script.specs.declared.Line.{Line}
-use Rattle.script.specs.declared.Line.TheVariants as line
+use Rattle.script.specs.declared.Request.{Request}
 use Rattle.script.specs.Lines.{request_of}
 use Rattle.listing.specs.Listing.{Wrote, most_row}
 use Rattle.runs.specs.declared.run.Run.{Run}
@@ -46,12 +45,12 @@ module _ (t p b : List ℕ) {out out' : List ℕ} {r : Run} {w : ℕ} {d' l' : L
   second-frame false x xs d ls y =
       record { run_is = y.run_is; shelf_is = ap (λ (h : Shelf). shelf h.desk t p b h.leaves) y.shelf_is; wrote = y.wrote; most = y.most }
 
-pub request-frame : (q : Line) (x : Store) (k : ℕ) (xs d t p b ls : List ℕ) {out out' : List ℕ} {r : Run} {w : ℕ} {d' t' p' b' : List ℕ}
+pub request-frame : (q : Option Request) (x : Store) (k : ℕ) (xs d t p b ls : List ℕ) {out out' : List ℕ} {r : Run} {w : ℕ} {d' t' p' b' : List ℕ}
     → Became (request_step q x k xs (shelf d t p b [])) out out' r w (shelf d' t' p' b' [])
     → Became (request_step q x k xs (shelf d t p b ls)) out out' r w (shelf d' t' p' b' ls)
-request-frame (line.Request kind id leaf text) x k xs d t p b ls y =
+request-frame (Some q) x k xs d t p b ls y =
     record { run_is = y.run_is; shelf_is = ap (λ (h : Shelf). shelf h.desk h.tree h.path h.buffer ls) y.shelf_is; wrote = y.wrote; most = y.most }
-request-frame line.Bad x k xs d t p b ls y =
+request-frame None x k xs d t p b ls y =
     record { run_is = y.run_is; shelf_is = ap (λ (h : Shelf). shelf h.desk h.tree h.path h.buffer ls) y.shelf_is; wrote = y.wrote; most = y.most }
 
 -- ---- a run stays sound, and counts one request at most
@@ -73,9 +72,9 @@ good-second : (g : Bool) (x : Store) (xs : List ℕ) (sh : Shelf) → Given x �
 good-second true x xs sh h = good-format (take (desk_len_of x) sh.desk) x (start_leaves (take x.ids sh.leaves) xs) _ _ h refl
 good-second false x xs sh h = (tt, omega arith)
 
-good-request : (q : Line) (x : Store) (k : ℕ) (xs : List ℕ) (sh : Shelf) → Roomy x → Good (request_step q x k xs sh).run (k + 1)
-good-request (line.Request kind id leaf text) x k xs sh h = (h, omega arith)
-good-request line.Bad x k xs sh h = (tt, omega arith)
+good-request : (q : Option Request) (x : Store) (k : ℕ) (xs : List ℕ) (sh : Shelf) → Roomy x → Good (request_step q x k xs sh).run (k + 1)
+good-request (Some q) x k xs sh h = (h, omega arith)
+good-request None x k xs sh h = (tt, omega arith)
 
 pub good-step : (r : Run) (xs : List ℕ) (sh : Shelf) → Sound r → Good (step_of r xs sh).run (count_of r + 1)
 good-step run.First xs sh h = good-first xs sh (store_of xs) refl

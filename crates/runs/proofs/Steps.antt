@@ -17,8 +17,8 @@ use Rattle.requests.specs.Request as requests
 use Rattle.requests.specs.Request.{RequestResult, requested}
 use Rattle.setup.specs.declared.Store.{Store}
 use Rattle.setup.specs.Setup.{start_good, start_leaves, most_shelf_height}
-use Rattle.script.specs.declared.Line.{Line}
-use Rattle.script.specs.declared.Line.TheVariants as line
+use Rattle.std.specs.Prelude.{Option, Some}
+use Rattle.script.specs.declared.Request.{Request}
 use Rattle.script.specs.Lines.{request_of, record_of}
 use Rattle.listing.specs.Listing.{Wrote, most_row}
 use Rattle.runs.specs.declared.run.Run.{Run}
@@ -88,10 +88,10 @@ answers_by x kind id leaf sh a d t p b dl tl pl f g h r =
     }
 
 -- the line was read as a request, which was answered, and the answer was listed
-pub request-said : (x : Store) (k : ℕ) (xs : List ℕ) (d t p b lent : List ℕ) (kind : Kind) (id leaf text : ℕ) (a : Answered) (sh : Shelf) {out out' : List ℕ} {w : ℕ}
-    → request_of xs ≡ line.Request kind id leaf text → lent ≡ record_of (drop text xs)
-    → Answers (request_on x kind id leaf lent (shelf d t p lent [])) x (shelf d t p lent []) a sh
-    → Wrote out 0 (row_for a (k + 1) kind id sh.buffer) out' w → w ≤ most_row
+pub request-said : (x : Store) (k : ℕ) (xs : List ℕ) (d t p b lent : List ℕ) (q : Request) (a : Answered) (sh : Shelf) {out out' : List ℕ} {w : ℕ}
+    → request_of xs ≡ Some q → lent ≡ record_of (drop q.text xs)
+    → Answers (request_on x q.kind q.id q.leaf lent (shelf d t p lent [])) x (shelf d t p lent []) a sh
+    → Wrote out 0 (row_for a (k + 1) q.kind q.id sh.buffer) out' w → w ≤ most_row
     → Became (request_step (request_of xs) x k xs (shelf d t p b [])) out out' (run.Ready x (k + 1)) w sh
-request-said x k xs d t p b lent kind id leaf text a sh e f q o m =
-    became (ap (λ (y : Line). request_step y x k xs (shelf d t p b [])) e) (rw (← f) (record { run_is = refl; shelf_is = q.shelf_is; wrote = rw (← q.answer_is, ← ap (λ (s : Shelf). s.buffer) q.shelf_is) o; most = m }))
+request-said x k xs d t p b lent r a sh e f q o m =
+    became (ap (λ (y : Option Request). request_step y x k xs (shelf d t p b [])) e) (rw (← f) (record { run_is = refl; shelf_is = q.shelf_is; wrote = rw (← q.answer_is, ← ap (λ (s : Shelf). s.buffer) q.shelf_is) o; most = m }))

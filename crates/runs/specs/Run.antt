@@ -1,23 +1,16 @@
 -- The run of a script: what each line does to the shelf's buffers, and what it adds to the listing. Assumes nothing.
 use Rattle.sizes.specs.declared.Refusal.{Refusal}
-use Rattle.std.specs.Prelude.{ℕ, ◌+◌, ◌^◌, ◌≤◌, ◌<◌, ◌≡◌, Bool, true, false, List, [], length, take, drop, Err, Ok, Result}
+use Rattle.std.specs.Prelude.{ℕ, ◌+◌, ◌^◌, ◌≤◌, ◌<◌, ◌≡◌, Bool, true, false, List, [], length, take, drop, Option, Some, None, Err, Ok, Result}
 use Rattle.sizes.specs.Sizes.{InRange, record_len, most_ids}
 use Rattle.formats.specs.Format.{FormatResult, format_of}
 use Rattle.desk.specs.declared.Kind.{Kind}
-use Rattle.requests.specs.Request.{Answered}
-use Rattle.store.specs.declared.Finished.{Finished}
-use Rattle.store.specs.declared.Finished.TheVariants as finished
-use Rattle.requests.specs.Request.{RequestResult}
+use Rattle.requests.specs.Request.{Answered, RequestResult}
 use Rattle.requests.specs.Request as requests
 use Rattle.text.specs.Text.{bad_line}
 use Rattle.setup.specs.declared.Store.{Store}
 use Rattle.setup.specs.Setup.{store_of, start_good, start_leaves, most_shelf_height}
-use Rattle.script.specs.declared.Line.{Line}
-use Rattle.script.specs.declared.Line.TheVariants as line
+use Rattle.script.specs.declared.Request.{Request}
 use Rattle.script.specs.Lines.{request_of, record_of}
-use Rattle.listing.specs.declared.Shown.TheVariants as shown
-use Rattle.listing.specs.declared.Answer.{Answer}
-use Rattle.listing.specs.declared.Answer.TheVariants as answer
 use Rattle.listing.specs.Listing.{Wrote, most_row, row_of, format_row}
 use Rattle.runs.specs.declared.run.Run.{Run}
 use Rattle.runs.specs.declared.run.Run.TheVariants as run
@@ -69,16 +62,10 @@ second_step false x xs sh = bad_step (with_leaves x.ids xs sh)
 
 -- ---- a request
 
-abbrev pub answer_of : Result Finished Refusal → Answer
-answer_of (Ok finished.Record) = answer.Record
-answer_of (Ok finished.Never) = answer.Never
-answer_of (Ok finished.Done) = answer.Done
-answer_of (Err r) = answer.Refused r
-
 -- the leaf is shown if one was asked for
 abbrev pub row_for : Answered → ℕ → Kind → ℕ → List ℕ → List ℕ
-row_for (Err r) n kind id buffer = row_of n kind id shown.Nothing (answer.Refused r) buffer
-row_for (Ok (l, f)) n kind id buffer = row_of n kind id (shown.Leaf l) (answer_of f) buffer
+row_for (Err r) n kind id buffer = row_of n kind id None (Err r) buffer
+row_for (Ok (l, f)) n kind id buffer = row_of n kind id (Some l) f buffer
 
 -- the request over what the store has of the buffers, and what they hold after it
 abbrev pub request_on : Store → Kind → ℕ → ℕ → List ℕ → Shelf → RequestResult
@@ -98,9 +85,9 @@ after_request q x sh =
 abbrev pub answer_step : RequestResult → Store → ℕ → Kind → ℕ → Shelf → Moved
 answer_step q x k kind id sh = moved (run.Ready x k) (row_for q.answer k kind id q.buffer) (after_request q x sh)
 
-abbrev pub request_step : Line → Store → ℕ → List ℕ → Shelf → Moved
-request_step (line.Request kind id leaf text) x k xs sh = answer_step (request_on x kind id leaf (record_of (drop text xs)) sh) x (k + 1) kind id sh
-request_step line.Bad x k xs sh = bad_step sh
+abbrev pub request_step : Option Request → Store → ℕ → List ℕ → Shelf → Moved
+request_step (Some q) x k xs sh = answer_step (request_on x q.kind q.id q.leaf (record_of (drop q.text xs)) sh) x (k + 1) q.kind q.id sh
+request_step None x k xs sh = bad_step sh
 
 -- ---- a line, by where the run stands
 

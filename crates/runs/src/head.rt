@@ -7,8 +7,7 @@ ghost use Rattle.runs.specs.Run.{first_step, Second, Became, second_step};
 
 use crate::run::{Run, Step};
 use crate::{lengths, run};
-use setup::{First, Store};
-use sizes::Outcome;
+use setup::Store;
 
 // Bytes 0 to 31.
 const KEY: [u8; 32] = [
@@ -22,8 +21,8 @@ pub fn first(line: &[u8], out: &mut [u8]) -> Step
     ensures { (result.run ≡ (first_step (store_of line.now) nothing).run) × Wrote out.old 0 (first_step (store_of line.now) nothing).text out.new result.written × (result.written ≤ most_row) }
 {
     match setup::store_line(line) {
-        First::Bad => run::bad(out),
-        First::Is(store) => Step {
+        None => run::bad(out),
+        Some(store) => Step {
             run: Run::Second(store),
             written: 0,
         },
@@ -55,14 +54,14 @@ pub fn second(
         &KEY,
         &leaves[..n],
     ) {
-        Outcome::Refused(r) => {
+        Err(r) => {
             let written = listing::format_row(out, r);
             Step {
                 run: Run::Over,
                 written,
             }
         }
-        Outcome::Done => Step {
+        Ok(()) => Step {
             run: Run::Ready { store, count: 0 },
             written: 0,
         },

@@ -4,28 +4,14 @@ ghost use Rattle.sizes.specs.Sizes.{record_len};
 ghost use Rattle.script.specs.Lines.{request_of};
 ghost use Rattle.listing.specs.Listing.{Wrote, most_row};
 ghost use Rattle.runs.specs.Shelf.{shelf};
-ghost use Rattle.runs.specs.Run.{Holds, Ready, Answers, Became, request_on, request_step, answer_of, row_for};
+ghost use Rattle.runs.specs.Run.{Holds, Ready, Answers, Became, request_on, request_step, row_for};
 
 use crate::run::{Run, Step};
 use crate::{lengths, run};
 use desk::Kind;
-use listing::{Answer, Shown};
 use requests::Answered;
-use script::Line;
+use script::Request;
 use setup::Store;
-use store::Finished;
-
-// What the listing says of finish's answer.
-fn answer_of(finished: Finished) -> Answer
-    ensures { result ≡ answer_of finished }
-{
-    match finished {
-        Finished::Record => Answer::Record,
-        Finished::Never => Answer::Never,
-        Finished::Done => Answer::Done,
-        Finished::Refused(r) => Answer::Refused(r),
-    }
-}
 
 // The line of request `n`. What stands in `record` is listed only where a record was answered.
 fn put_row(out: &mut [u8], n: u64, kind: Kind, id: u16, answered: Answered, record: &[u8]) -> usize
@@ -33,24 +19,8 @@ fn put_row(out: &mut [u8], n: u64, kind: Kind, id: u16, answered: Answered, reco
     ensures { Wrote out.old 0 (row_for answered n kind id «record».now) out.new result × (result ≤ most_row) }
 {
     match answered {
-        Answered::Refused(r) => listing::row(
-            out,
-            n,
-            kind,
-            id,
-            Shown::Nothing,
-            Answer::Refused(r),
-            record,
-        ),
-        Answered::Asked { leaf, finished } => listing::row(
-            out,
-            n,
-            kind,
-            id,
-            Shown::Leaf(leaf),
-            answer_of(finished),
-            record,
-        ),
+        Err(r) => listing::row(out, n, kind, id, None, Err(r), record),
+        Ok((leaf, finished)) => listing::row(out, n, kind, id, Some(leaf), finished, record),
     }
 }
 
@@ -96,22 +66,21 @@ pub fn ready(
     requires { Ready store count desk.old tree.old path.old «record».old out.old }
     ensures { Became (request_step (request_of line.now) store count line.now (shelf desk.old tree.old path.old «record».old [])) out.old out.new result.run result.written (shelf desk.new tree.new path.new «record».new []) }
 {
-    match script::request_line(line) {
-        Line::Bad => run::bad(out),
-        Line::Request {
-            kind,
-            id,
-            leaf,
-            text,
-        } => {
-            script::lay_text(record, &line[text..]);
-            let answered = answer(store, kind, id, leaf, desk, tree, path, record);
-            let n = count + 1;
-            let written = put_row(out, n, kind, id, answered, record);
-            Step {
-                run: Run::Ready { store, count: n },
-                written,
-            }
-        }
+    let Some(request) = script::request_line(line) else {
+        return run::bad(out);
+    };
+    let Request {
+        kind,
+        id,
+        leaf,
+        text,
+    } = request;
+    script::lay_text(record, &line[text..]);
+    let answered = answer(store, kind, id, leaf, desk, tree, path, record);
+    let n = count + 1;
+    let written = put_row(out, n, kind, id, answered, record);
+    Step {
+        run: Run::Ready { store, count: n },
+        written,
     }
 }

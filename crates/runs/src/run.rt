@@ -67,12 +67,7 @@ pub fn take_line(
 pub fn is_over(run: Run) -> bool
     ensures { result ≡ is_over run }
 {
-    match run {
-        Run::First => false,
-        Run::Second(_) => false,
-        Run::Ready { store: _, count: _ } => false,
-        Run::Over => true,
-    }
+    matches!(run, Run::Over)
 }
 
 // The script is over: a first or second line that never came counts as one that can't be read.
@@ -81,9 +76,7 @@ pub fn at_end(run: Run, out: &mut [u8]) -> usize
     ensures { Wrote out.old 0 (end_text run) out.new result × (result ≤ most_row) }
 {
     match run {
-        Run::First => listing::bad_line(out),
-        Run::Second(_) => listing::bad_line(out),
-        Run::Ready { store: _, count: _ } => 0,
-        Run::Over => 0,
+        Run::First | Run::Second(_) => listing::bad_line(out),
+        Run::Ready { .. } | Run::Over => 0,
     }
 }

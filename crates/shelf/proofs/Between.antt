@@ -1,5 +1,5 @@
 -- The program's loop: between two turns the buffers have the lengths that they came with, the unread text lies in the window, and the run is sound. Assumes nothing.
-use Prim.Native.Nat.{ℕ, ◌+◌, ◌-◌, ◌^◌, ◌≤◌, ◌<◌}
+use Prim.Native.Nat.{ℕ, ◌+◌, ◌≤◌, ◌<◌}
 use mathlib.Core.Path.{◌≡◌, refl, ◌∙◌}
 use mathlib.Core.Bool.{false}
 use mathlib.Core.List.{List}
@@ -8,8 +8,7 @@ use lib.ListN.{length}
 use Rattle.setup.specs.Setup.{most_line}
 use Rattle.runs.specs.declared.run.Run.TheVariants as run
 use Rattle.shelf.specs.declared.turns.Place.{Place}
-use Rattle.shelf.specs.declared.turns.Turn.{Turn}
-use Rattle.shelf.specs.declared.turns.Turn.TheVariants as turn
+use Rattle.std.specs.Prelude.{Option, Some, None}
 use Rattle.runs.specs.Shelf.{shelf, Lent}
 use Rattle.runs.specs.Run.{is_over, Sound, count_of}
 use Rattle.shelf.specs.Turns.{Left, Turned}
@@ -27,11 +26,11 @@ pub record Between (w₀ d₀ t₀ p₀ b₀ l₀ o₀ w d t p b l o : List ℕ)
   pub window_most : most_line < length w
   pub going : is_over at.run ≡ false
   pub sound : Sound at.run
-  pub counted : count_of at.run + turns < 2 ^ 64
+  pub counted : count_of at.run ≤ turns
   pub lent : Lent (shelf d t p b l) o
 
-pub between_first : (w d t p b l o : List ℕ) (turns : ℕ) → turns < 2 ^ 64 → most_line < length w → Lent (shelf d t p b l) o → Between w d t p b l o w d t p b l o (record { from = 0; to = 0; ended = false; run = run.First }) turns
-between_first w d t p b l o turns h m e =
+pub between_first : (w d t p b l o : List ℕ) → most_line < length w → Lent (shelf d t p b l) o → Between w d t p b l o w d t p b l o (record { from = 0; to = 0; ended = false; run = run.First }) 0
+between_first w d t p b l o m e =
     record {
       window_is = refl;
       desk_is = refl;
@@ -51,8 +50,8 @@ between_first w d t p b l o turns h m e =
 
 module _ {w₀ d₀ t₀ p₀ b₀ l₀ o₀ w d t p b l o : List ℕ} {at : Place} {turns : ℕ} (x : Between w₀ d₀ t₀ p₀ b₀ l₀ o₀ w d t p b l o at turns) where
   pub between_next : {w' d' t' p' b' l' o' : List ℕ} {at' : Place} → length w' ≡ length w → length d' ≡ length d → length t' ≡ length t → length p' ≡ length p → length b' ≡ length b → length l' ≡ length l → length o' ≡ length o
-      → Left at' (count_of at.run) (length w) → 0 < turns → Between w₀ d₀ t₀ p₀ b₀ l₀ o₀ w' d' t' p' b' l' o' at' (turns - 1)
-  between_next kw kd kt kp kb kl ko y h =
+      → Left at' (count_of at.run) (length w) → Between w₀ d₀ t₀ p₀ b₀ l₀ o₀ w' d' t' p' b' l' o' at' (turns + 1)
+  between_next kw kd kt kp kb kl ko y =
       record {
         window_is = kw ∙ x.window_is;
         desk_is = kd ∙ x.desk_is;
@@ -79,6 +78,6 @@ module _ {w₀ d₀ t₀ p₀ b₀ l₀ o₀ w d t p b l o : List ℕ} {at : Pla
       }
 
 -- a turn may be said to go on in a larger window
-pub turned-in : (x : Turn) (k n m : ℕ) → n ≤ m → Turned x k n → Turned x k m
-turned-in (turn.Go at) k n m h y = record { from_to = y.from_to; inside = omega (arith, y.inside); going = y.going; sound = y.sound; count_high = y.count_high }
-turned-in turn.Stop k n m h y = tt
+pub turned-in : (x : Option Place) (k n m : ℕ) → n ≤ m → Turned x k n → Turned x k m
+turned-in (Some at) k n m h y = record { from_to = y.from_to; inside = omega (arith, y.inside); going = y.going; sound = y.sound; count_high = y.count_high }
+turned-in None k n m h y = tt

@@ -10,7 +10,7 @@ use Rattle.text.specs.Text.{bad_line}
 use Rattle.std.specs.Prelude.{Option}
 use Rattle.setup.specs.declared.Store.{Store}
 use Rattle.setup.specs.Setup.{most_line}
-use Rattle.script.specs.declared.Line.{Line}
+use Rattle.script.specs.declared.Request.{Request}
 use Rattle.script.proofs.Bounds.{too_long}
 use Rattle.runs.specs.declared.run.Run.{Run}
 use Rattle.runs.specs.declared.run.Run.TheVariants as run
@@ -25,7 +25,7 @@ ends (run.Second x) xs sh h s g =
     (ap (λ (q : Bool). (second_step q x xs sh).run) e, ap (λ (q : Bool). (second_step q x xs sh).text) e)
 ends (run.Ready x k) xs sh h s g =
     let e = (too_long xs h).no_request in
-    (ap (λ (q : Line). (request_step q x k xs sh).run) e, ap (λ (q : Line). (request_step q x k xs sh).text) e)
+    (ap (λ (q : Option Request). (request_step q x k xs sh).run) e, ap (λ (q : Option Request). (request_step q x k xs sh).text) e)
 ends run.Over xs sh h s g = absurd (let z : ◌≡◌ {A = ℕ} 0 1 = cc in omega arith)
 
 -- whatever stands after its front

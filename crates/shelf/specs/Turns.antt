@@ -1,12 +1,10 @@
 -- What holds between two turns of the program. Assumes nothing.
-use Rattle.std.specs.Prelude.{ℕ, ◌+◌, ◌≤◌, ◌<◌, ◌≡◌, false, List, ◌++◌, length}
+use Rattle.std.specs.Prelude.{ℕ, ◌+◌, ◌≤◌, ◌<◌, ◌≡◌, false, List, ◌++◌, length, Option, Some, None}
 use Rattle.words.specs.Bytes.{splice}
 use Rattle.setup.specs.Setup.{most_line}
 use Rattle.runs.specs.declared.run.Run.{Run}
 use Rattle.runs.specs.declared.run.Run.TheVariants as run
 use Rattle.shelf.specs.declared.turns.Place.{Place}
-use Rattle.shelf.specs.declared.turns.Turn.{Turn}
-use Rattle.shelf.specs.declared.turns.Turn.TheVariants as turn
 use Rattle.runs.specs.Shelf.{Shelf}
 use Rattle.runs.specs.Run.{Moved, step_of, is_over, Sound, count_of, Runs}
 
@@ -34,11 +32,11 @@ pub record Said (m : Moved) (out out' : List ℕ) : Type 0 where
   pub run_is : m.run ≡ run.Over
   pub text_is : out' ≡ splice out 0 m.text
 
-abbrev pub Turned : Turn → ℕ → ℕ → Type 0
-Turned (turn.Go at) k size = Left at k size
-Turned turn.Stop k size = Unit
+abbrev pub Turned : Option Place → ℕ → ℕ → Type 0
+Turned (Some at) k size = Left at k size
+Turned None k size = Unit
 
 -- where more of a line was wanted and the turn stops, what was listed is what the line comes to, however it goes on
-abbrev pub Listed : Turn → Run → List ℕ → List ℕ → List ℕ → Type 0
-Listed (turn.Go at) r front out out' = Unit
-Listed turn.Stop r front out out' = (rest : List ℕ) (sh : Shelf) → Said (step_of r (front ++ rest) sh) out out'
+abbrev pub Listed : Option Place → Run → List ℕ → List ℕ → List ℕ → Type 0
+Listed (Some at) r front out out' = Unit
+Listed None r front out out' = (rest : List ℕ) (sh : Shelf) → Said (step_of r (front ++ rest) sh) out out'

@@ -1,6 +1,6 @@
 // The script read in pieces and its listing written, turn by turn: what bytes there are goes to `run`, and what it lists goes out.
 // A run ends where the script does, at a line that can't be read, at a refused format, or where the output can't be written.
-ghost use Rattle.std.specs.Prelude.{◌+◌, ◌-◌, ◌≤◌, ◌<◌, length};
+ghost use Rattle.std.specs.Prelude.{◌+◌, ◌-◌, ◌≤◌, ◌<◌, length, Option};
 ghost use Rattle.words.specs.Bytes.{part};
 ghost use Rattle.setup.specs.Setup.{most_line};
 ghost use Rattle.listing.specs.Listing.{most_row};
@@ -20,13 +20,6 @@ pub struct Place {
     pub to: usize,
     pub ended: bool,
     pub run: Run,
-}
-
-// What a turn comes to.
-#[derive(Clone, Copy, Drop)]
-pub enum Turn {
-    Go(Place),
-    Stop,
 }
 
 // Writes a part of the listing, whole. Where that can't be done no line of the listing can say so, and the user is told on standard error.
@@ -56,8 +49,13 @@ fn fill(rt: &(impl Input + Eprint), window: &mut [u8], from: usize, to: usize) -
     }
 }
 
-// More of the script is wanted. A window that is full holds the front of a line that is longer than any that can be read.
-fn more(rt: &(impl Input + Print + Eprint), at: Place, window: &mut [u8], out: &mut [u8]) -> Turn
+// More of the script is wanted: where the program then stands, or none if it stops. A window that is full holds the front of a line that is longer than any that can be read.
+fn more(
+    rt: &(impl Input + Print + Eprint),
+    at: Place,
+    window: &mut [u8],
+    out: &mut [u8],
+) -> Option<Place>
     requires { Inside at window.old × Sound at.run × (most_row ≤ length out.old) }
     ensures { Turned result (count_of at.run) (length window.old) × Listed result at.run (part window.old at.from (at.to - at.from)) out.old out.new }
 {
@@ -66,11 +64,11 @@ fn more(rt: &(impl Input + Print + Eprint), at: Place, window: &mut [u8], out: &
         let step = run::bad(out);
         let n = step.written;
         write_out(rt, &out[..n]);
-        return Turn::Stop;
+        return None;
     }
     let end = fill(rt, window, at.from, at.to);
     let run = at.run;
-    Turn::Go(Place {
+    Some(Place {
         from: 0,
         to: end,
         ended: end == n,
@@ -87,14 +85,14 @@ fn over(rt: &(impl Print + Eprint), run: Run, out: &mut [u8])
 }
 
 // After a line the text is read on from `next`, unless the run is over.
-fn go_on(run: Run, next: usize, at: Place) -> Turn
+fn go_on(run: Run, next: usize, at: Place) -> Option<Place>
     requires { (next ≤ at.to) × Sound run × (count_of run ≤ count_of at.run + 1) }
     ensures { Turned result (count_of at.run) at.to }
 {
     if run::is_over(run) {
-        return Turn::Stop;
+        return None;
     }
-    Turn::Go(Place {
+    Some(Place {
         from: next,
         to: at.to,
         ended: at.ended,
@@ -115,7 +113,7 @@ fn line(
     record: &mut [u8],
     leaves: &mut [u16],
     out: &mut [u8],
-) -> Turn
+) -> Option<Place>
     requires { (at.from ≤ end) × (end ≤ next) × (next ≤ at.to) × Placed at window.now (shelf desk.old tree.old path.old «record».old leaves.old) out.old }
     ensures { Turned result (count_of at.run) (length window.now) }
 {
@@ -133,7 +131,7 @@ fn line(
     );
     let n = step.written;
     if !write_out(rt, &out[..n]) {
-        return Turn::Stop;
+        return None;
     }
     let after = step.run;
     go_on(after, next, at)
@@ -150,7 +148,7 @@ fn take_turn(
     record: &mut [u8],
     leaves: &mut [u16],
     out: &mut [u8],
-) -> Turn
+) -> Option<Place>
     requires { Placed at window.old (shelf desk.old tree.old path.old «record».old leaves.old) out.old }
     ensures { Turned result (count_of at.run) (length window.old) }
 {
@@ -158,7 +156,7 @@ fn take_turn(
         Next::Over => {
             let run = at.run;
             over(rt, run, out);
-            Turn::Stop
+            None
         }
         Next::More => more(rt, at, window, out),
         Next::Line { end, next } => line(
@@ -167,7 +165,7 @@ fn take_turn(
     }
 }
 
-// A proved loop has to end, and nothing says that a script does. So the loop counts its turns down, from a number that no run uses up.
+// A proved loop has to end, and nothing says that a script does. So the loop counts its turns, up to a number that no run reaches.
 pub fn run_script(
     rt: &(impl Input + Print + Eprint),
     window: &mut [u8],
@@ -186,16 +184,10 @@ pub fn run_script(
         ended: false,
         run: Run::First,
     };
-    let mut turns = u64::MAX;
-    while 0 < turns {
-        match take_turn(rt, at, window, desk, tree, path, record, leaves, out) {
-            Turn::Stop => {
-                return;
-            }
-            Turn::Go(after) => {
-                at = after;
-            }
-        }
-        turns -= 1;
+    for _turn in 0..u64::MAX {
+        let Some(after) = take_turn(rt, at, window, desk, tree, path, record, leaves, out) else {
+            return;
+        };
+        at = after;
     }
 }

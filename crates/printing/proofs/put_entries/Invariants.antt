@@ -1,10 +1,6 @@
 -- `printing::put_entries` meets its contract: at each turn, the lines of the first i entries are written. Assumes nothing.
-use Prim.Native.Nat.{◌-◌}
 use Rattle.printing.proofs.Entries.{SoFar}
 use Rattle.printing.proofs.put_entries.Given as goal
 
 abbrev pub invariant-loop-i : goal.invariant-loop-i
 invariant-loop-i l = SoFar l.chapter l.n l.from l.sheet l.initial.out l.i l.out l.at
-
-abbrev pub decreases-loop-i : goal.decreases-loop-i
-decreases-loop-i l = l.n - l.i

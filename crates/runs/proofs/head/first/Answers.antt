@@ -4,12 +4,12 @@ use native.Mathlib.Omega.{arith}
 use Rattle.runs.proofs.Steps.{silent}
 use Rattle.runs.proofs.head.first.Goals as goal
 
-pub returns-in-Bad : goal.returns-in-Bad
-returns-in-Bad c =
-    let e = sym c.store_line.ensures ∙ c.in-Bad.is in
+pub returns-in-None : goal.returns-in-None
+returns-in-None c =
+    let e = sym c.store_line.ensures ∙ c.in-None.is in
     rw e c.bad.ensures
 
-pub returns-in-Is : goal.returns-in-Is
-returns-in-Is c =
-    let e = sym c.store_line.ensures ∙ c.in-Is.is in
+pub returns-in-Some : goal.returns-in-Some
+returns-in-Some c =
+    let e = sym c.store_line.ensures ∙ c.in-Some.is in
     (rw e, rw e (silent c.args.out.now), omega arith)

@@ -36,8 +36,8 @@ slice_bounds-format-end-2 c =
     let a = c.args in
     sym (length-take-le c.desk_len-m.result a.desk.now (omega arith))
 
-pub returns-in-Refused : goal.returns-in-Refused
-returns-in-Refused c =
+pub returns-in-Err : goal.returns-in-Err
+returns-in-Err c =
     let a = c.args in
     let p = c.requires in
     let s = c.start_line in
@@ -45,11 +45,11 @@ returns-in-Refused c =
     let m = c.desk_len-m in
     became
     (second-said a.store a.line.now a.desk.now a.leaves.now f.result _ f.new.desk s.new.leaves m.result _
-    (omega (arith, p.ids_high, p.leaves_most)) s.auto.leaves s.ensures.0 (c.if-not-start_line.false) m.ensures.0 s.ensures.1 f.ensures c.in-Refused.is)
+    (omega (arith, p.ids_high, p.leaves_most)) s.auto.leaves s.ensures.0 (c.if-not-start_line.false) m.ensures.0 s.ensures.1 f.ensures c.in-Err.is)
     (record { run_is = refl; shelf_is = refl; wrote = c.format_row-written.ensures.0; most = c.format_row-written.ensures.1 })
 
-pub returns-in-Done : goal.returns-in-Done
-returns-in-Done c =
+pub returns-in-Ok : goal.returns-in-Ok
+returns-in-Ok c =
     let a = c.args in
     let p = c.requires in
     let s = c.start_line in
@@ -57,5 +57,5 @@ returns-in-Done c =
     let m = c.desk_len-m in
     became
     (second-said a.store a.line.now a.desk.now a.leaves.now f.result _ f.new.desk s.new.leaves m.result _
-    (omega (arith, p.ids_high, p.leaves_most)) s.auto.leaves s.ensures.0 (c.if-not-start_line.false) m.ensures.0 s.ensures.1 f.ensures c.in-Done.is)
+    (omega (arith, p.ids_high, p.leaves_most)) s.auto.leaves s.ensures.0 (c.if-not-start_line.false) m.ensures.0 s.ensures.1 f.ensures c.in-Ok.is)
     (record { run_is = refl; shelf_is = refl; wrote = silent a.out.now; most = omega arith })
