@@ -3,14 +3,12 @@
 // 64 hexadecimal digits each, which another implementation gave. A line of output per vector. Assumes nothing.
 #![tactic(auto)]
 
-ghost use Rattle.std.specs.Prelude.{◌≤◌, length, IfOk};
-
-use std::io;
-use std::io::{Read, Write};
+use std::fmt::Display;
+use std::io::{ErrorKind, Read, Write};
+use std::{array, io};
 
 const LONGEST: usize = 200;
 
-const MESSAGES: usize = 201;
 // 64 digits and the end of the line
 const DIGITS: usize = 64;
 
@@ -18,75 +16,43 @@ const LINE: usize = 65;
 
 const LINES: usize = 13065;
 
-fn put(out: &mut impl Write, s: &[u8]) -> io::Result<()> {
-    out.write_all(s)
-}
-
-// Reads until `buf` is full or the input ends, and returns how many bytes it put at the start of `buf`.
-fn read_full(input: &mut impl Read, buf: &mut [u8]) -> io::Result<usize>
-    ensures { IfOk result (λ n. n ≤ length buf.new) }
-{
-    let mut done = 0;
-    while done < buf.len() {
-        let n = input.read(&mut buf[done..])?;
-        if n == 0 {
-            break;
-        }
-        done += n;
-    }
-    Ok(done)
-}
-
-fn digit(n: u8) -> u8 {
-    if n < 10 {
-        return n + b'0';
-    }
-    if n < 16 { n - 10 + b'a' } else { b'?' }
-}
-
-fn hex(d: [u8; 32]) -> [u8; 64] {
-    let mut h = [0u8; 64];
-    let mut i = 0;
-    while i < 32 {
-        h[2 * i] = digit(d[i] / 16);
-        h[2 * i + 1] = digit(d[i] % 16);
-        i += 1;
-    }
-    h
+fn hex(d: [u8; 32]) -> [u8; DIGITS] {
+    let digits = b"0123456789abcdef";
+    array::from_fn(|i| {
+        let b = d[i / 2];
+        let half = if i % 2 == 0 { b / 16 } else { b % 16 };
+        digits[usize::from(half)]
+    })
 }
 
 // The line of one vector: its name, its digest, and whether that is the expected one.
-fn vector(out: &mut impl Write, name: &[u8], d: [u8; 32], expected: &[u8]) -> io::Result<()> {
+fn vector<N: Display>(
+    out: &mut impl Write,
+    name: &N,
+    d: [u8; 32],
+    expected: &[u8],
+) -> io::Result<()> {
     let h = hex(d);
-    put(out, name)?;
-    put(out, b": ")?;
-    put(out, &h)?;
-    if words::same(&h, expected) {
-        put(out, b" as expected\n")
+    write!(out, "{name}: ")?;
+    out.write_all(&h)?;
+    if &h[..] == expected {
+        writeln!(out, " as expected")
     } else {
-        put(out, b" NOT AS EXPECTED\n")
+        writeln!(out, " NOT AS EXPECTED")
     }
 }
 
 fn million() -> [u8; 32] {
-    let a = [97u8; 1000];
+    let a = [b'a'; 1000];
     let mut h = sha256::Hasher::new();
-    let mut i: usize = 0;
-    while i < 1000 {
+    for _ in 0..1000 {
         h = h.absorb(&a);
-        i += 1;
     }
     h.finish()
 }
 
-fn pattern() -> [u8; 200] {
-    let mut m = [0u8; 200];
-    let mut i: usize = 0;
-    while i < LONGEST {
-        m[i] = ((i * 7 + 3) % 256) as u8;
-        i += 1;
-    }
-    m
+fn pattern() -> [u8; LONGEST] {
+    array::from_fn(|i| ((i * 7 + 3) % 256) as u8)
 }
 
 fn in_parts(m: &[u8]) -> [u8; 32] {
@@ -99,83 +65,72 @@ fn in_parts(m: &[u8]) -> [u8; 32] {
         .finish()
 }
 
-// "nnn bytes", as a name.
-fn name(n: usize) -> [u8; 9] {
-    let mut s = [32, 32, 32, 32, 98, 121, 116, 101, 115];
-    s[0] = digit((n / 100 % 10) as u8);
-    s[1] = digit((n / 10 % 10) as u8);
-    s[2] = digit((n % 10) as u8);
-    s
-}
-
 // The messages of 0 to 200 bytes, and a digest of all their digests, absorbed one by one.
-fn messages(out: &mut impl Write, expected: &[u8; 13065]) -> io::Result<[u8; 32]> {
+fn messages(out: &mut impl Write, expected: &[u8; LINES]) -> io::Result<[u8; 32]> {
     let m = pattern();
     let mut all = sha256::Hasher::new();
-    let mut n: usize = 0;
-    while n < MESSAGES {
-        let at = LINE * n;
-        let e = at + DIGITS;
-        let t = &expected[..];
-        let line = &t[at..e];
+    let (lines, _) = expected.as_chunks::<LINE>();
+    for (n, line) in lines.iter().enumerate() {
+        let line = &line[..DIGITS];
         let front = &m[..n];
         let d = sha256::digest(front);
-        vector(out, &name(n), d, line)?;
-        vector(out, b"  in parts", in_parts(front), line)?;
+        vector(out, &format_args!("{n:03} bytes"), d, line)?;
+        vector(out, &"  in parts", in_parts(front), line)?;
         all = all.absorb(&d);
-        n += 1;
     }
     Ok(all.finish())
 }
 
 // The published vectors.
 fn published(out: &mut impl Write) -> io::Result<()> {
-    vector(
-        out,
-        b"empty message",
-        sha256::digest(b""),
-        b"e3b0c44298fc1c149afbf4c8996fb92427ae41e4649b934ca495991b7852b855",
-    )?;
-    vector(
-        out,
-        b"abc",
-        sha256::digest(b"abc"),
-        b"ba7816bf8f01cfea414140de5dae2223b00361a396177a9cb410ff61f20015ad",
-    )?;
-    vector(
-        out,
-        b"448 bits",
-        sha256::digest(b"abcdbcdecdefdefgefghfghighijhijkijkljklmklmnlmnomnopnopq"),
-        b"248d6a61d20638b8e5c026930c3e6039a33ce45964ff2167f6ecedd419db06c1",
-    )?;
-    vector(
-        out,
-        b"896 bits",
-        sha256::digest(
-            b"abcdefghbcdefghicdefghijdefghijkefghijklfghijklmghijklmnhijklmnoijklmnopjklmnopqklmnopqrlmnopqrsmnopqrstnopqrstu",
+    for (name, d, expected) in [
+        (
+            "empty message",
+            sha256::digest(b""),
+            b"e3b0c44298fc1c149afbf4c8996fb92427ae41e4649b934ca495991b7852b855",
         ),
-        b"cf5b16a778af8380036ce59e7b0492370b249b11e8f07a51afac45037afee9d1",
-    )?;
-    vector(
-        out,
-        b"a million a",
-        million(),
-        b"cdc76e5c9914fb9281a1c7e284d73e67f1809a48a497200e046d39ccc7112cd0",
-    )
+        (
+            "abc",
+            sha256::digest(b"abc"),
+            b"ba7816bf8f01cfea414140de5dae2223b00361a396177a9cb410ff61f20015ad",
+        ),
+        (
+            "448 bits",
+            sha256::digest(b"abcdbcdecdefdefgefghfghighijhijkijkljklmklmnlmnomnopnopq"),
+            b"248d6a61d20638b8e5c026930c3e6039a33ce45964ff2167f6ecedd419db06c1",
+        ),
+        (
+            "896 bits",
+            sha256::digest(
+                b"abcdefghbcdefghicdefghijdefghijkefghijklfghijklmghijklmnhijklmnoijklmnopjklmnopqklmnopqrlmnopqrsmnopqrstnopqrstu",
+            ),
+            b"cf5b16a778af8380036ce59e7b0492370b249b11e8f07a51afac45037afee9d1",
+        ),
+        (
+            "a million a",
+            million(),
+            b"cdc76e5c9914fb9281a1c7e284d73e67f1809a48a497200e046d39ccc7112cd0",
+        ),
+    ] {
+        vector(out, &name, d, expected)?;
+    }
+    Ok(())
 }
 
 fn main(rt: HostRuntime) -> io::Result<()> {
     let mut out = rt.stdout();
     published(&mut out)?;
-    let mut expected = [0u8; 13065];
-    let got = read_full(&mut rt.stdin(), &mut expected)?;
-    if got != LINES {
-        return put(&mut out, b"standard input is not 201 lines\n");
+    let mut expected = [0u8; LINES];
+    if let Err(e) = rt.stdin().read_exact(&mut expected) {
+        if e.kind() == ErrorKind::UnexpectedEof {
+            return writeln!(out, "standard input is not 201 lines");
+        }
+        return Err(e);
     }
     let together = messages(&mut out, &expected)?;
     vector(
         &mut out,
-        b"the 201 digests together",
+        &"the 201 digests together",
         together,
         b"3275febb4612d86d586eb9f11cd21e648a9fc7d95e0f6b8d362786e28c9c5b79",
     )
