@@ -4,6 +4,7 @@ use mathlib.Core.Path.{◌≡◌, refl, sym, ap, subst, ◌∙◌}
 use mathlib.Core.Bool.{Bool, true, false}
 use mathlib.Core.List.{List, ◌++◌}
 use lib.ListN.{length, take}
+use Rattle.std.specs.Bool.{then_some}
 use Rattle.sizes.specs.declared.Sizes.{Sizes}
 use Rattle.bags.specs.Bags.{those}
 use Rattle.slots.specs.Slots.{Block, is_used, blocks_of, Bytes}
@@ -46,7 +47,7 @@ module _ (desk path w : List ℕ) (n : ℕ) (r : Reached (view_of desk) path n) 
 -- ---- what is placed
 
 block-is : (kind : Kind) (marked : Bool) (id leaf : ℕ) (found asked : List ℕ)
-    → gathering.block_if (is_there kind marked) id leaf (carried_on kind marked found asked) ≡ under id leaf (carried kind marked found asked)
+    → gathering.block_if id (then_some (is_there kind marked) leaf) (carried_on kind marked found asked) ≡ under id leaf (carried kind marked found asked)
 block-is Read true id leaf found asked = refl
 block-is Read false id leaf found asked = refl
 block-is Write marked id leaf found asked = refl

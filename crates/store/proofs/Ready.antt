@@ -1,19 +1,21 @@
 -- Where steps 3 to 6 start, what is gathered can be arranged, and the plan is the one of the paper. Assumes nothing.
-use Prim.Native.Nat.{ℕ, ◌+◌}
+use Prim.Native.Nat.{ℕ, ◌+◌, ◌<◌}
 use mathlib.Core.Path.{◌≡◌, refl, sym, ap, subst, ◌∙◌}
 use mathlib.Core.Bool.{Bool, true, false}
 use mathlib.Core.List.{List}
 use native.Mathlib.Omega.{arith}
 use lib.ListN.{length}
+use Rattle.std.specs.Bool.{then_some}
+use Rattle.std.specs.Option.{IfSome}
 use Rattle.words.proofs.Splice.{length_part}
 use Rattle.sizes.specs.declared.Sizes.{Sizes}
-use Rattle.sizes.specs.Sizes.{record_len, request_head, path_len}
+use Rattle.sizes.specs.Sizes.{leaves, record_len, request_head, path_len}
 use Rattle.sizes.proofs.Lengths.{path_most}
 use Rattle.slots.specs.Slots.{Block}
 use Rattle.desk.specs.declared.Kind.{Kind}
 use Rattle.desk.specs.declared.Kind.TheVariants.{Read, Write}
 use Rattle.desk.specs.Layout.{c_at, shape_of, ids_of}
-use Rattle.desk.specs.Readers.{sizes_of, kind_asked, record_asked, stash_count}
+use Rattle.desk.specs.Readers.{sizes_of, kind_asked, id_asked, new_leaf, is_marked, record_asked, stash_count}
 use Rattle.items.specs.declared.View.{View}
 use Rattle.items.specs.Way.{Reached}
 use Rattle.items.specs.Real.{real}
@@ -28,7 +30,7 @@ use Rattle.opening.proofs.Genuine.{genuine-checks}
 use Rattle.opening.proofs.Open.{stash_room}
 use Rattle.opening.proofs.Gathered.{gathered-placeable, record-length}
 use Rattle.store.specs.Steps.{was_marked, record_found, to_place}
-use Rattle.store.specs.Carried.{carried_on}
+use Rattle.store.specs.Carried.{is_there, carried_on}
 use Rattle.store.specs.Ready.{Ready, request_of, carried_of}
 use Rattle.store.proofs.Gathering.{found-is, place_same}
 
@@ -36,6 +38,10 @@ carried-long : (kind : Kind) (marked : Bool) (found asked : List ℕ) → (marke
 carried-long Read true found asked f a = f refl
 carried-long Read false found asked f a = a
 carried-long Write marked found asked f a = a
+
+leaf-if : (there : Bool) (leaf n : ℕ) → leaf < n → IfSome (then_some there leaf) (λ l. l < n)
+leaf-if true leaf n h = h
+leaf-if false leaf n h = tt
 
 module _ (desk path : List ℕ) (v : View) (n : ℕ) (w : List ℕ) (y : Ready desk path v n w) where
   pub view-reached : Reached v path n
@@ -67,7 +73,7 @@ module _ (desk path : List ℕ) (v : View) (n : ℕ) (w : List ℕ) (y : Ready d
         blocks = subst (Placeable (ids_of desk)) (sym (found-is desk path w n y.reached y.unsealed)) (gathered-placeable real desk path o (genuine-checks real desk path y.checks));
         id_low = o.low;
         id_high = o.high;
-        new_leaf_low = y.new_leaf_low;
+        new_leaf_low = leaf-if (is_there (kind_asked desk) (is_marked desk (id_asked desk))) (new_leaf desk) (leaves (sizes_of desk)) y.new_leaf_low;
       }
 
   -- with what the code reads

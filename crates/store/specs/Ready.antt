@@ -1,5 +1,6 @@
 -- What steps 3 to 6 start from: a desk with an open request, a path that passes the checks, and its working copy. Assumes nothing.
 use Rattle.std.specs.Prelude.{ℕ, ◌<◌, true, ◌≡◌, List, length}
+use Rattle.std.specs.Bool.{then_some}
 use Rattle.sizes.specs.Sizes.{leaves, path_len}
 use Rattle.desk.specs.Readers.{sizes_of, kind_asked, id_asked, new_leaf, record_asked, is_marked}
 use Rattle.gathering.specs.declared.Request.{Request}
@@ -22,7 +23,7 @@ pub record Ready (desk path : List ℕ) (v : View) (n : ℕ) (w : List ℕ) : Ty
 
 -- the requested block, and the record that it carries on
 abbrev pub request_of : List ℕ → Request
-request_of desk = record { there = is_there (kind_asked desk) (is_marked desk (id_asked desk)); id = id_asked desk; leaf = new_leaf desk }
+request_of desk = record { id = id_asked desk; leaf = then_some (is_there (kind_asked desk) (is_marked desk (id_asked desk))) (new_leaf desk) }
 
 abbrev pub carried_of : List ℕ → List ℕ → List ℕ
 carried_of desk path = carried_on (kind_asked desk) (is_marked desk (id_asked desk)) (record_found real desk path) (record_asked desk)

@@ -2,6 +2,7 @@
 #![tactic(auto)]
 
 ghost use Rattle.std.specs.Prelude.{◌≡◌, ℕ, ◌+◌, ◌≤◌, ◌<◌, length};
+ghost use Rattle.std.specs.Int.{from_bool};
 ghost use Rattle.sizes.specs.Sizes.{leaves, path_len, record_len};
 ghost use Rattle.sizes.specs.Refusals.{first_of};
 ghost use Rattle.desk.specs.Layout.{Whole, ids_of, room_of};
@@ -61,14 +62,10 @@ fn lay(w: &mut [u8], s: Sizes, at: &[u8], places: &[u16], bank: &[u8])
     requires by_index { (h : ℕ) → h ≤ s.height → length (pick h at.now (blocks_at bank.now places.now)) ≤ s.slots }
     ensures { Laid s at.now (blocks_at bank.now places.now) w.new (s.height + 1) }
 {
-    let levels = s.height + 1;
-    let mut k = 0;
-    while k < levels {
+    for k in 0..s.height + 1 {
         let a = s.item_at(k) + Sizes::COUNTER;
-        let z = s.slots;
         let h = (s.height - k) as u8;
-        placing::bank::fill(w, a, z, h, at, places, bank);
-        k += 1;
+        placing::bank::fill(w, a, s.slots, h, at, places, bank);
     }
 }
 
@@ -81,7 +78,7 @@ fn accept(
     n: usize,
     id: usize,
     leaf: u16,
-    mark: u8,
+    marked: bool,
     over: usize,
     at: &[u8],
     places: &[u16],
@@ -92,13 +89,13 @@ fn accept(
     requires leaf_bound { (v.leaf < leaves v.sizes) × Reached v path.old n }
     requires places_in_bounds { (length places.now ≤ length at.now) × Inside bank.now places.now }
     requires writable { Writable v.sizes (room_of desk.old) over at.now (blocks_at bank.now places.now) }
-    ensures { Accepted v path.old desk.old path.new desk.new id leaf mark at.now (blocks_at bank.now places.now) }
+    ensures { Accepted v path.old desk.old path.new desk.new id leaf (from_bool marked) at.now (blocks_at bank.now places.now) }
 {
     let s = v.sizes;
     lay(w, s, at, places, bank);
     let root = writing::write_path(path, w, v, n);
     let h = (s.height + 1) as u8;
-    settling::settle(desk, id, leaf, mark, over, h, at, places, bank, &root);
+    settling::settle(desk, id, leaf, marked, over, h, at, places, bank, &root);
 }
 
 // Steps 4 and 6 by a plan: path and desk are then the new ones.
@@ -120,12 +117,14 @@ fn follow(
 {
     let id = opening::id_asked(desk);
     let leaf = request::new_leaf(desk);
-    let mark = request::mark_for(request::kind_asked(desk), request::was_marked(desk));
+    let marked = request::is_there(request::kind_asked(desk), request::was_marked(desk));
     let all = c.all;
     let over = c.over;
     let at = &at[..all];
     let places = &places[..all];
-    accept(desk, path, w, v, n, id, leaf, mark, over, at, places, bank);
+    accept(
+        desk, path, w, v, n, id, leaf, marked, over, at, places, bank,
+    );
 }
 
 // A bank for the most blocks that one finish can meet.
@@ -173,13 +172,10 @@ fn finish_open(
 {
     let v = opening::view(desk);
     let mut w = [0u8; Sizes::MOST_PATH];
-    let o = opening::open_path(desk, path, v, &mut w);
-    let good = o.good;
-    if !good {
+    let Some(n) = opening::open_path(desk, path, v, &mut w) else {
         desk[desk::STATUS] = u8::from(Status::Forged);
         return Err(Refusal::Forged);
-    }
-    let n = o.count;
+    };
     if opening::is_worn(path, v, n) {
         desk[desk::STATUS] = u8::from(Status::Worn);
         return Err(Refusal::Worn);

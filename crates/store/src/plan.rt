@@ -19,10 +19,10 @@ fn request_of(desk: &[u8]) -> Request
     requires { OpenDesk desk.now }
     ensures { result ≡ ready.request_of desk.now }
 {
+    let there = request::is_there(request::kind_asked(desk), request::was_marked(desk));
     Request {
-        there: request::is_there(request::kind_asked(desk), request::was_marked(desk)),
         id: opening::id_asked(desk) as u16,
-        leaf: request::new_leaf(desk),
+        leaf: there.then_some(request::new_leaf(desk)),
     }
 }
 

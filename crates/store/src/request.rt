@@ -5,7 +5,7 @@ ghost use Rattle.desk.specs.Readers.{kind_asked, id_asked, new_leaf, record_aske
 ghost use Rattle.items.specs.Way.{Reached};
 ghost use Rattle.opening.specs.Opening.{view_of};
 ghost use Rattle.opening.specs.Walk.{OpenDesk, Unsealed};
-ghost use Rattle.store.specs.Steps.{answer_for, buffer_for, mark_for};
+ghost use Rattle.store.specs.Steps.{answer_for, buffer_for};
 ghost use Rattle.store.specs.Carried.{is_found, is_there, carried_on};
 ghost use Rattle.store.specs.Ready.{carried_of};
 
@@ -59,7 +59,7 @@ pub fn is_found(kind: Kind, marked: bool) -> bool
     }
 }
 
-// Whether there is a block to place: a read of an id that was never written has none.
+// Whether there is a block to place, and the id is marked then: a read of an id that was never written has none.
 pub fn is_there(kind: Kind, marked: bool) -> bool
     ensures { result ≡ is_there kind marked }
 {
@@ -67,15 +67,6 @@ pub fn is_there(kind: Kind, marked: bool) -> bool
         Kind::Read => marked,
         Kind::Write => true,
     }
-}
-
-pub fn mark_for(kind: Kind, marked: bool) -> u8
-    ensures { result ≡ mark_for kind marked }
-{
-    if is_there(kind, marked) {
-        return 1;
-    }
-    0
 }
 
 pub fn answer_for(kind: Kind, marked: bool) -> Finished

@@ -10,6 +10,7 @@ use Rattle.placing.specs.Walk.{pick}
 use Rattle.desk.specs.Changes.{settled}
 use Rattle.store.specs.Laying.{Placed}
 use borrow.Author.Rules.{rules}
+use Rattle.std.specs.Int.{from_bool}
 use Rattle.store.proofs.accept.Goals as goal
 
 pub write_path-root-requires : goal.write_path-root-requires
@@ -30,6 +31,6 @@ returns c =
       desk_is =
           λ placed p.
           c.settle.ensures
-          ∙ ap (λ (r : List ℕ). settled a.id a.leaf a.mark (pick (a.v.sizes.height + 1) a.at.now (blocks_at a.bank.now a.places.now)) r a.desk.now)
+          ∙ ap (λ (r : List ℕ). settled a.id a.leaf (from_bool a.marked) (pick (a.v.sizes.height + 1) a.at.now (blocks_at a.bank.now a.places.now)) r a.desk.now)
           (c.write_path-root.ensures.root_is placed (holds_at placed p));
     }

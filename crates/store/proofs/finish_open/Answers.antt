@@ -1,5 +1,4 @@
 -- `store::finish_open` meets its contract: each return gives the first row of the path's that applies. Assumes nothing.
-use mathlib.Core.Bool.{true}
 use mathlib.Core.Path.{◌≡◌, sym, ap, subst, ◌∙◌}
 use native.Mathlib.Omega.{arith}
 use lib.ListN.{length}
@@ -7,47 +6,51 @@ use Rattle.words.proofs.Splice.{length-zeros}
 use Rattle.sizes.specs.Sizes.{path_len, most_path}
 use Rattle.items.specs.declared.View.{View}
 use Rattle.items.specs.Way.{Reached}
-use Rattle.items.specs.Real.{real}
-use Rattle.opening.specs.Opening.{genuine}
 use Rattle.opening.proofs.Open.{view-range}
 use Rattle.store.proofs.Rows.{worn-is, path-forged, path-worn, path-passed}
 use Rattle.store.proofs.finish_open.Goals as goal
 
-pub open_path-o-requires : goal.open_path-o-requires
-open_path-o-requires c =
+pub open_path-requires : goal.open_path-requires
+open_path-requires c =
     let e = c.view-v.ensures in record { open_desk = (c.requires.open_desk.0, (e, c.requires.path_len.0 ∙ ap (λ (x : View). path_len x.sizes) (sym e))); w_len = length-zeros most_path }
 
-pub returns-then-not-good : goal.returns-then-not-good
-returns-then-not-good c =
+pub returns-in_default : goal.returns-in_default
+returns-in_default c =
     let a = c.args in
-    path-forged a.desk.now a.path.now a.«record».now (sym c.open_path-o.ensures.good ∙ c.if-not-good.true)
+    path-forged a.desk.now a.path.now a.«record».now (sym (rw c.in_default.is at c.open_path.ensures.good))
 
 pub is_worn-requires : goal.is_worn-requires
 is_worn-requires c =
     let v = c.view-v in
-    let o = c.open_path-o in
     let z : length c.args.path.now ≡ path_len v.result.sizes = c.requires.path_len.0 ∙ ap (λ (x : View). path_len x.sizes) (sym v.ensures) in (
       record { range = view-range c.args.desk.now c.requires.open_desk.0 v.result v.ensures; room = omega (arith, z) },
-      subst (λ (x : View). Reached x c.args.path.now o.result.count) (sym v.ensures) o.ensures.count,
+      subst (λ (x : View). Reached x c.args.path.now c.in-Some.n) (sym v.ensures) c.in-Some.ensures.count,
     )
 
 pub returns-then-is_worn : goal.returns-then-is_worn
 returns-then-is_worn c =
-    let genuine-at : let a = c.args in genuine real a.desk.now a.path.now ≡ true = sym c.open_path-o.ensures.good ∙ c.if-not-good.false in
     let a = c.args in
     let v = c.view-v in
-    path-worn a.desk.now a.path.now a.«record».now genuine-at (sym (c.is_worn.ensures ∙ worn-is a.desk.now a.path.now v.result v.ensures) ∙ c.if-is_worn.true)
+    path-worn a.desk.now a.path.now a.«record».now (sym c.in-Some.ensures.good) (sym (c.is_worn.ensures ∙ worn-is a.desk.now a.path.now v.result v.ensures) ∙ c.if-is_worn.true)
 
 pub place-requires : goal.place-requires
 place-requires c =
-    let genuine-at : let a = c.args in genuine real a.desk.now a.path.now ≡ true = sym c.open_path-o.ensures.good ∙ c.if-not-good.false in
-    let o = c.open_path-o.ensures in
-    (record { good = c.requires.open_desk.0; new_leaf_low = c.requires.open_desk.1; view = c.view-v.ensures; size = c.requires.path_len.0; reached = o.count; unsealed = o.opened; checks = genuine-at }, c.requires.path_len.1)
+    let o = c.in-Some.ensures in (
+      record {
+        good = c.requires.open_desk.0;
+        new_leaf_low = c.requires.open_desk.1;
+        view = c.view-v.ensures;
+        size = c.requires.path_len.0;
+        reached = o.count;
+        unsealed = o.opened c.in-Some.n o.count;
+        checks = sym o.good;
+      },
+      c.requires.path_len.1,
+    )
 
 pub returns : goal.returns
 returns c =
-    let genuine-at : let a = c.args in genuine real a.desk.now a.path.now ≡ true = sym c.open_path-o.ensures.good ∙ c.if-not-good.false in
     let a = c.args in
     let v = c.view-v in
     c.place.ensures
-    ∙ path-passed a.desk.now a.path.now a.«record».now genuine-at (sym (c.is_worn.ensures ∙ worn-is a.desk.now a.path.now v.result v.ensures) ∙ c.if-is_worn.false)
+    ∙ path-passed a.desk.now a.path.now a.«record».now (sym c.in-Some.ensures.good) (sym (c.is_worn.ensures ∙ worn-is a.desk.now a.path.now v.result v.ensures) ∙ c.if-is_worn.false)

@@ -1,6 +1,6 @@
 -- `store::follow` meets its contract: the plan can be written, and what is accepted by it is what the paper writes. Assumes nothing.
 use mathlib.Core.Bool.{Bool}
-use mathlib.Core.Path.{◌≡◌, ap₂, ◌∙◌}
+use mathlib.Core.Path.{◌≡◌, ap, ap₂, ◌∙◌}
 use native.Mathlib.Omega.{arith}
 use lib.ListN.{length, take, length-take}
 use Rattle.desk.specs.declared.Kind.{Kind}
@@ -10,6 +10,8 @@ use Rattle.opening.proofs.Open.{view-range, view-leaf, copy-carries}
 use Rattle.store.specs.Steps.{mark_for, to_place}
 use Rattle.store.proofs.Gathering.{plan-writable, followed}
 use Rattle.store.proofs.Ready.{view-reached, view-size}
+use Rattle.std.specs.Int.{from_bool}
+use Rattle.store.proofs.Carried.{mark-is}
 use Rattle.store.proofs.follow.Goals as goal
 
 pub slice_bounds-at-end : goal.slice_bounds-at-end
@@ -35,5 +37,5 @@ pub returns : goal.returns
 returns c =
     let a = c.args in
     let r = c.accept in
-    followed a.desk.now a.path.now a.v c.id_asked-id.result c.new_leaf-leaf.result c.mark_for-mark.result c.requires.ready.view c.id_asked-id.ensures c.new_leaf-leaf.ensures
-    (c.mark_for-mark.ensures ∙ ap₂ (λ (x : Kind) (m : Bool). mark_for x m) c.kind_asked.ensures c.was_marked.ensures) a.c.all a.c.over a.bank.now a.places.now a.at.now r.new.path r.new.desk c.requires.planned r.ensures
+    followed a.desk.now a.path.now a.v c.id_asked-id.result c.new_leaf-leaf.result (from_bool c.is_there-marked.result) c.requires.ready.view c.id_asked-id.ensures c.new_leaf-leaf.ensures
+    (ap from_bool c.is_there-marked.ensures ∙ mark-is c.kind_asked.result c.was_marked.result ∙ ap₂ (λ (x : Kind) (m : Bool). mark_for x m) c.kind_asked.ensures c.was_marked.ensures) a.c.all a.c.over a.bank.now a.places.now a.at.now r.new.path r.new.desk c.requires.planned r.ensures

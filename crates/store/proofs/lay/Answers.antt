@@ -7,11 +7,10 @@ use Rattle.placing.specs.Walk.{pick}
 use Rattle.placing.proofs.Laid.{fit_at, pick-fit}
 use Rattle.store.specs.Laying.{Laid}
 use Rattle.store.proofs.Laying.{laid_more, length-with}
-use borrow.Author.Rules.{rules}
 use Rattle.store.proofs.lay.Goals as goal
 
 pub loop-k-init : goal.loop-k-init
-loop-k-init c = ((omega arith, refl), (refl, λ j h. absurd (omega arith)))
+loop-k-init c = λ j h. absurd (omega arith)
 
 pub fill-requires : goal.fill-requires
 fill-requires c =
@@ -24,18 +23,12 @@ loop-k-preserved c =
     let l = c.loop-k in
     let bs = blocks_at a.bank.now a.places.now in
     let h = a.s.height - l.k in
-    let fit = pick-fit h a.at.now bs (fit_at a.bank.now a.places.now (λ i. omega (arith, c.shared_slice_known-3-1.given i)) c.requires.carries.1.1) in
-    let i = c.item_at-a.ensures in (
-      search rules,
-      (
-        omega (arith, c.fill.auto.dst),
-        laid_more a.s a.at.now bs l.w c.fill.new.dst l.k (c.item_at-a.result + 8) h (omega arith) (omega (arith, c.requires.carries.0.room)) (omega arith) refl
-            (length-with a.s.slots (pick h a.at.now bs) fit (c.requires.by_index h (omega arith))) c.fill.ensures l.invariant.1.1,
-      ),
-    )
+    let fit = pick-fit h a.at.now bs (fit_at a.bank.now a.places.now (λ i. omega (arith, c.type_inv.bank i)) c.requires.carries.1.1) in
+    laid_more a.s a.at.now bs l.w c.fill.new.dst l.k (c.item_at-a.result + 8) h (omega arith) (omega (arith, c.requires.carries.0.room)) (omega (arith, c.item_at-a.ensures.is)) refl
+    (length-with a.s.slots (pick h a.at.now bs) fit (c.requires.by_index h (omega arith))) c.fill.ensures l.invariant
 
 pub returns : goal.returns
 returns c =
     let l = c.loop-k in
     let e : l.k ≡ c.args.s.height + 1 = omega arith in
-    subst (λ (n : ℕ). Laid c.args.s c.args.at.now (blocks_at c.args.bank.now c.args.places.now) l.w n) e l.invariant.1.1
+    subst (λ (n : ℕ). Laid c.args.s c.args.at.now (blocks_at c.args.bank.now c.args.places.now) l.w n) e l.invariant
