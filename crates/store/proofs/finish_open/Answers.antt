@@ -17,7 +17,7 @@ open_path-requires c =
 pub returns-in_default : goal.returns-in_default
 returns-in_default c =
     let a = c.args in
-    path-forged a.desk.now a.path.now a.«record».now (sym (rw c.in_default.is at c.open_path.ensures.good))
+    rw c.from.ensures (path-forged a.desk.now a.path.now a.«record».now (sym (rw c.in_default.is at c.open_path.ensures.good)))
 
 pub is_worn-requires : goal.is_worn-requires
 is_worn-requires c =
@@ -31,7 +31,7 @@ pub returns-then-is_worn : goal.returns-then-is_worn
 returns-then-is_worn c =
     let a = c.args in
     let v = c.view-v in
-    path-worn a.desk.now a.path.now a.«record».now (sym c.in-Some.ensures.good) (sym (c.is_worn.ensures ∙ worn-is a.desk.now a.path.now v.result v.ensures) ∙ c.if-is_worn.true)
+    rw c.from-then-is_worn.ensures (path-worn a.desk.now a.path.now a.«record».now (sym c.in-Some.ensures.good) (sym (c.is_worn.ensures ∙ worn-is a.desk.now a.path.now v.result v.ensures) ∙ c.if-is_worn.true))
 
 pub place-requires : goal.place-requires
 place-requires c =

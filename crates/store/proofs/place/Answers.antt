@@ -34,7 +34,7 @@ returns-then-room-rest c =
     let a = c.args in
     let p = c.plan-c in
     let o = over-is a.desk.now a.path.now a.v p.result.over c.requires.0.view p.ensures.remains in
-    full-refused a.desk.now a.path.now a.«record».now (lt-ltb (room_of a.desk.now) (length (new_stash real a.desk.now a.path.now)) (omega (arith, o, c.if-room-rest.true)))
+    rw c.from.ensures (full-refused a.desk.now a.path.now a.«record».now (lt-ltb (room_of a.desk.now) (length (new_stash real a.desk.now a.path.now)) (omega (arith, o, c.if-room-rest.true))))
 
 pub follow-requires : goal.follow-requires
 follow-requires c =
