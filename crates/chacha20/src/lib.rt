@@ -27,8 +27,8 @@ struct Quad {
     d: u32,
 }
 
-// The bytes of `part`, each combined with the one of `ks` at its place. By places: of what a zip with `iter_mut` leaves a proof knows the length
-// alone. And not one function with `block::sums`, which adds words: that would be this loop again, and a closure for each.
+// The bytes of `part`, each combined with the one of `ks` at its place. By places: of what a zip with `iter_mut` leaves, a proof knows the
+// length alone. Not one function with `block::sums`, which adds words: that would be this loop again, and a closure for each.
 fn mix(part: &mut [u8], ks: &[u8])
     requires { length part.old ≤ length ks.now }
     ensures { part.new ≡ spec.zipped bit_xor part.old ks.now }
@@ -56,8 +56,8 @@ fn mix_blocks(key: &[u8; 32], nonce: &[u8; 12], n: u32, part: &mut [u8])
     }
 }
 
-// The bytes of `text` combined with the keystream, in place: enciphered where they were plain, and deciphered where not. By places, since of
-// what `chunks_mut` leaves a proof knows the length alone.
+// The bytes of `text` combined with the keystream, in place: enciphered where they were plain, and deciphered where not. By places: of what
+// `chunks_mut` leaves, a proof knows the length alone.
 pub fn apply(key: &[u8; 32], nonce: &[u8; 12], text: &mut [u8])
     ensures { text.new ≡ spec.cipher key.now nonce.now text.old }
 {

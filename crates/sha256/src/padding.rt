@@ -12,7 +12,7 @@ const LENGTH: usize = 8;
 
 const ONE: u8 = 0x80;
 
-// How many bytes of a block are left over after `total`. A cast: from u64 to usize the library has `try_from` alone, and no number here is refused.
+// How many bytes of a block are left over after `total`. By a cast: `usize::try_from` would ask what to do with an Err that never comes.
 pub fn begun(total: u64) -> usize
     ensures { result ≡ total % 64 }
 {
