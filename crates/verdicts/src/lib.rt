@@ -124,12 +124,8 @@ pub fn can_be_read(chapter: u8, name: &[u8]) -> bool
 fn head_bytes(verdict: Verdict, chapter: u8, year: u16) -> [u8; NAME]
     ensures { result ≡ head_of verdict chapter year }
 {
-    [
-        u8::from(verdict),
-        chapter,
-        (year % 256) as u8,
-        (year / 256 % 256) as u8,
-    ]
+    let [low, high] = year.to_le_bytes();
+    [u8::from(verdict), chapter, low, high]
 }
 
 fn put_record(record: &mut [u8], verdict: Verdict, chapter: u8, year: u16, name: &[u8])

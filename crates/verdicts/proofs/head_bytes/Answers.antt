@@ -4,4 +4,4 @@ use Rattle.verdicts.proofs.head_bytes.Goals as goal
 
 pub returns : goal.returns
 unfolding bytes_of
-returns c = rw c.from.ensures
+returns c = rw (c.from.ensures, c.to_le_bytes.ensures)
