@@ -59,7 +59,7 @@ fn low(d: &[u8], i: usize, n: usize, top: &[u8; BYTES]) -> bool
     none_above(&d[a..e], top)
 }
 
-// Whether the first `n` places are good.
+// Whether the first `n` places are good. Not a `for`: the walk goes on by sixty-four places or by one.
 pub fn places_good(d: &[u8], n: usize, most: usize) -> bool
     requires { (d_len n ≤ length d.now) × InSixteenBits most }
     ensures { result ≡ places_good most n d.now }

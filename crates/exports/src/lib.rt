@@ -70,7 +70,7 @@ pub extern "C" fn bawnaroy_desk_length(ids: u16, stash: u8) -> usize
         b: desk::B_LEN,
         r: Sizes::RECORD,
         n: n,
-        s: words::wide(stash),
+        s: usize::from(stash),
     };
     h.len()
 }

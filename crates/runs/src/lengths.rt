@@ -22,7 +22,7 @@ pub fn desk_len(store: Store) -> usize
         b: desk::B_LEN,
         r: Sizes::RECORD,
         n: store.ids as usize,
-        s: words::wide(store.room),
+        s: usize::from(store.room),
     }
     .len()
 }

@@ -82,8 +82,6 @@ impl Sizes {
 
     pub const DIGEST: usize = 32;
 
-    pub const HEADER: usize = Self::COUNTER + Self::FLAGS + 2 * Self::DIGEST;
-
     // The sizes that two bytes name, in range or not.
     pub fn of(height: u8, slots: u8) -> Self
         ensures { result ≡ spec.sized height slots }
@@ -112,7 +110,7 @@ impl Sizes {
         power(self.height)
     }
 
-    // The length of a leaf's item, and of an inner one.
+    // The length of a leaf's item, and of an inner one, which has flags and digests behind.
     pub fn leaf_len(self) -> usize
         requires { spec.InRange self }
         ensures { result ≡ spec.leaf_len self }
@@ -146,12 +144,12 @@ impl Sizes {
         k * self.inner_len()
     }
 
-    // The same of an inner item, of which more is known to lie in the path.
+    // The same of an inner item, of which more is known to lie in the path. Not a further clause of `item_at`: each caller would cite a half of a pair.
     pub fn inner_at(self, k: usize) -> usize
         requires { spec.InRange self × (k < self.height) }
         ensures { InnerAt self k result }
     {
-        k * self.inner_len()
+        self.item_at(k)
     }
 
     pub fn path_len(self) -> usize

@@ -2,18 +2,11 @@
 // the laws of them, which every crate above cites, in proofs/.
 #![tactic(auto)]
 
-ghost use Rattle.std.specs.Prelude.{◌≡◌, ◌+◌, ◌≤◌, ◌<◌, length};
+ghost use Rattle.std.specs.Prelude.{◌≡◌, ◌+◌, ◌≤◌, length};
 ghost use Rattle.words.specs.Bytes.{part, splice, zeros};
 ghost use Rattle.words.specs.Bytes as spec;
 ghost use Rattle.words.specs.Numbers.{number, bytes_of, big_number, big_bytes_of};
 ghost use Rattle.words.specs.Tests.{all_zero};
-
-// A byte as a number. A call asks for the index alone, where a cast asks also that the byte fits.
-pub fn wide(x: u8) -> usize
-    ensures { (result ≡ x) × (result < 256) }
-{
-    usize::from(x)
-}
 
 // The `N` bytes of `s` from `at` on, as an array: what the library's conversions take.
 fn array_at<const N: usize>(s: &[u8], at: usize) -> [u8; N]

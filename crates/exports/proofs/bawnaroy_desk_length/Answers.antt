@@ -14,10 +14,10 @@ pub len-requires : goal.len-requires
 len-requires c =
     let in-range : ids_good c.args.ids ≡ true = sym c.ids_good.ensures ∙ c.if-not-ids_good.false in
     let k = ids-known c.args.ids in-range in
-    record { b = omega arith; r = omega arith; n = omega arith; s = omega (arith, c.wide.ensures.1) }
+    record { b = omega arith; r = omega arith; n = omega arith; s = omega arith }
 
 pub returns : goal.returns
 returns c =
     let in-range : ids_good c.args.ids ≡ true = sym c.ids_good.ensures ∙ c.if-not-ids_good.false in
-    let e : c.len.result ≡ desk_len c.args.ids c.args.stash = c.len.ensures ∙ omega (arith, c.wide.ensures.0) in
+    let e : c.len.result ≡ desk_len c.args.ids c.args.stash = c.len.ensures ∙ omega (arith, c.from.ensures) in
     e ∙ sym (desk-in c.args.ids c.args.stash in-range)
