@@ -14,7 +14,7 @@ const READ: i32 = 0;
 fn trouble_number(t: Trouble) -> i32
     ensures { result ≡ trouble_code t }
 {
-    -(taking::number(t) as i32)
+    -(u8::from(t) as i32)
 }
 
 fn taken_number(taken: Taken) -> i32

@@ -14,10 +14,10 @@ use Rattle.sizes.specs.Refusals.{NoneOf}
 use Rattle.sizes.proofs.Rows.{none-applies}
 use Rattle.book.specs.MatrixRow.{row_rows, row_checked}
 use Rattle.sheets.specs.Sheet.{empty_sheet}
+use Rattle.std.specs.Prelude.{Result, Ok, Err}
 use Rattle.taking.specs.declared.Trouble.{Trouble}
-use Rattle.taking.specs.declared.Text.{Text}
-use Rattle.taking.specs.declared.Text.TheVariants as took
-use Rattle.taking.specs.Taking.{take_of}
+use Rattle.taking.specs.declared.BadText.{BadText}
+use Rattle.taking.specs.Taking.{in_line, take_of}
 use Rattle.printing.specs.Printed.{room_of}
 use Rattle.printing.specs.Printing.{text_of}
 use Rattle.tap.specs.declared.Taken.TheVariants as taken
@@ -35,9 +35,9 @@ module _ (desk tree : List ℕ) (chapter year first end : ℕ) (draws text : Lis
       → read_of desk tree chapter year first end draws text ≡ read_text (take_of chapter year (end - first) text).answer desk tree first draws sheet
   text-decides e = ap (λ (o : Outcome). read_by o desk tree chapter year first end draws text) e
 
-  bad_text : (t : Trouble) (line : ℕ) → row_checked desk tree first end draws ≡ outcome.Done → (take_of chapter year (end - first) text).answer ≡ took.Bad t line
-      → read_of desk tree chapter year first end draws text ≡ read_text (took.Bad t line) desk tree first draws sheet
-  bad_text t line e h = text-decides e ∙ ap (λ (a : Text). read_text a desk tree first draws sheet) h
+  bad_text : (t : Trouble) (line : ℕ) → row_checked desk tree first end draws ≡ outcome.Done → (take_of chapter year (end - first) text).answer ≡ Err (in_line t line)
+      → read_of desk tree chapter year first end draws text ≡ read_text (Err (in_line t line)) desk tree first draws sheet
+  bad_text t line e h = text-decides e ∙ ap (λ (a : Result (Unit {0}) BadText). read_text a desk tree first draws sheet) h
 
 -- ---- a text that was read was refused by nothing
 
@@ -56,13 +56,13 @@ not-bad (outcome.Refused q) t line h = let z : ◌≡◌ {A = ℕ} 0 1 = cc in o
 module _ (desk tree : List ℕ) (chapter year first end : ℕ) (draws text : List ℕ) where
   pub record WasRead : Type 0 where
     pub checked : row_checked desk tree first end draws ≡ outcome.Done
-    pub good : (take_of chapter year (end - first) text).answer ≡ took.Good
+    pub good : (take_of chapter year (end - first) text).answer ≡ Ok tt
     pub passes : (pass_of desk tree first draws (sheet desk tree chapter year first end draws text)).answer ≡ outcome.Done
 
-  by-text : (a : Text) → (take_of chapter year (end - first) text).answer ≡ a → row_checked desk tree first end draws ≡ outcome.Done
+  by-text : (a : Result (Unit {0}) BadText) → (take_of chapter year (end - first) text).answer ≡ a → row_checked desk tree first end draws ≡ outcome.Done
       → (read_text a desk tree first draws (sheet desk tree chapter year first end draws text)).answer ≡ taken.Done → WasRead
-  by-text took.Good k e h = record { checked = e; good = k; passes = taken-done _ h }
-  by-text (took.Bad t line) k e h = let z : ◌≡◌ {A = ℕ} 0 1 = cc in absurd (omega arith)
+  by-text (Ok u) k e h = record { checked = e; good = k; passes = taken-done _ h }
+  by-text (Err b) k e h = absurd (cc)
 
   by-checks : (o : Outcome) → row_checked desk tree first end draws ≡ o → (read_by o desk tree chapter year first end draws text).answer ≡ taken.Done → WasRead
   by-checks (outcome.Refused q) e h = let z : ◌≡◌ {A = ℕ} 0 1 = cc in absurd (omega arith)
@@ -72,7 +72,7 @@ module _ (desk tree : List ℕ) (chapter year first end : ℕ) (draws text : Lis
   was_read h = by-checks (row_checked desk tree first end draws) refl h
 
   -- and one that is good is not answered as bad
-  pub good-answer : (take_of chapter year (end - first) text).answer ≡ took.Good → (t : Trouble) (line : ℕ)
+  pub good-answer : (take_of chapter year (end - first) text).answer ≡ Ok tt → (t : Trouble) (line : ℕ)
       → (read_of desk tree chapter year first end draws text).answer ≢ taken.Bad t line
   good-answer e t line h = go (row_checked desk tree first end draws) h
     where
@@ -80,7 +80,7 @@ module _ (desk tree : List ℕ) (chapter year first end : ℕ) (draws text : Lis
       go (outcome.Refused q) k = let z : ◌≡◌ {A = ℕ} 0 1 = cc in omega arith
       go outcome.Done k =
           not-bad (pass_of desk tree first draws (sheet desk tree chapter year first end draws text)).answer t line
-          (sym (ap (λ (a : Text). (read_text a desk tree first draws (sheet desk tree chapter year first end draws text)).answer) e) ∙ k)
+          (sym (ap (λ (a : Result (Unit {0}) BadText). (read_text a desk tree first draws (sheet desk tree chapter year first end draws text)).answer) e) ∙ k)
 
 -- ---- so was one that was written; no text where there is a refusal
 

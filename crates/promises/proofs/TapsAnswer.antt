@@ -19,7 +19,8 @@ use Rattle.book.specs.MatrixRow.{row_checked}
 use Rattle.book.proofs.Passed.{row-passed}
 use Rattle.sheets.specs.Sheet.{entry_start, entry_at, empty_sheet}
 use Rattle.returning.proofs.Sheets.{fill-long}
-use Rattle.taking.specs.declared.Text.{Text}
+use Rattle.std.specs.Prelude.{Result}
+use Rattle.taking.specs.declared.BadText.{BadText}
 use Rattle.tap.specs.declared.Taken.TheVariants as taken
 use Rattle.tap.specs.declared.Printed.TheVariants as printed
 use Rattle.passing.specs.Passing.{EntryResult, kind_of, request_entry, PassResult, going_on, pass_from, pass_of}
@@ -96,7 +97,7 @@ module _ (b : Start) (byte : b.room < 256) (ts : TreeState) (reached : TreeReach
   read-ends chapter year first end draws text o q h =
       let sheet = sheet_of chapter year first end text in
       let m = o.may_begin in
-      let e = text-decides desk tree chapter year first end draws text m.checked ∙ ap (λ (a : Text). read_text a desk tree first draws sheet) o.good in
+      let e = text-decides desk tree chapter year first end draws text m.checked ∙ ap (λ (a : Result (Unit {0}) BadText). read_text a desk tree first draws sheet) o.good in
       sheet-ends b byte ts reached first end draws sheet m.ready m.checked m.all_leaves (taken-long chapter year (end - first) text) q
       (taken-same (pass_of desk tree first draws sheet).answer q (sym (ap (λ (r : ReadResult). r.answer) e) ∙ h))
 

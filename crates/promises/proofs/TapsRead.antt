@@ -15,8 +15,8 @@ use Rattle.items.specs.Real.{real}
 use Rattle.keeping.specs.Table.{Table}
 use Rattle.book.specs.MatrixRow.{row_checked}
 use Rattle.book.proofs.Passed.{row-passed}
-use Rattle.taking.specs.declared.Text.{Text}
-use Rattle.taking.specs.declared.Text.TheVariants as took
+use Rattle.std.specs.Prelude.{Result, Ok, Err}
+use Rattle.taking.specs.declared.BadText.{BadText}
 use Rattle.taking.specs.Taking.{take_of}
 use Rattle.tap.specs.declared.Taken.{Taken}
 use Rattle.tap.specs.declared.Taken.TheVariants as taken
@@ -72,8 +72,8 @@ module _ (b : Start) (byte : b.room < 256) (ts : TreeState) (reached : TreeReach
           not_forged = f;
         }
 
-    by-text : (a : Text) → row_checked desk tree first end draws ≡ outcome.Done → Read (read_text a desk tree first draws sheet)
-    by-text took.Good e =
+    by-text : (a : Result (Unit {0}) BadText) → row_checked desk tree first end draws ≡ outcome.Done → Read (read_text a desk tree first draws sheet)
+    by-text (Ok u) e =
         let p = read-passes e in
         record {
           count = p.count;
@@ -82,8 +82,8 @@ module _ (b : Start) (byte : b.room < 256) (ts : TreeState) (reached : TreeReach
           all_done = λ h. p.all_done (taken-done (pass_of desk tree first draws sheet).answer h);
           not_forged = λ h. p.not_forged (taken-same (pass_of desk tree first draws sheet).answer Forged h);
         }
-    by-text (took.Bad t line) e =
-        unread (taken.Bad t line) (λ h. let z : ◌≡◌ {A = ℕ} 0 1 = cc in omega arith) (λ h. let z : ◌≡◌ {A = ℕ} 0 1 = cc in omega arith)
+    by-text (Err b) e =
+        unread (taken.Bad b.trouble b.line) (λ h. let z : ◌≡◌ {A = ℕ} 0 1 = cc in omega arith) (λ h. let z : ◌≡◌ {A = ℕ} 0 1 = cc in omega arith)
 
     by-checks : (o : Outcome) → row_checked desk tree first end draws ≡ o → Read (read_by o desk tree chapter year first end draws text)
     by-checks (outcome.Refused q) e =

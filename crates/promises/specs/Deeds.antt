@@ -1,6 +1,6 @@
 -- Demand 3 with rows of the verdict book and texts of TAP among the requests: each asks for the leaves of its range, one after the other, whatever it
 -- finds there and whatever the text says. Assumes nothing.
-use Rattle.std.specs.Prelude.{ℕ, suc, ◌+◌, ◌-◌, ◌<◌, ◌≡◌, Bool, List, [], ◌∷◌, ◌++◌, length, get_or, take, drop}
+use Rattle.std.specs.Prelude.{ℕ, suc, ◌+◌, ◌-◌, ◌<◌, ◌≡◌, Bool, List, [], ◌∷◌, ◌++◌, length, get_or, take, drop, Result, Ok, Err}
 use Rattle.words.specs.Bytes.{splice, zeros}
 use Rattle.sizes.specs.declared.Outcome.{Outcome}
 use Rattle.sizes.specs.declared.Outcome.TheVariants as outcome
@@ -17,8 +17,7 @@ use Rattle.verdicts.specs.declared.counts.Row.{Row}
 use Rattle.verdicts.specs.declared.counts.Row.TheVariants.{Refused, Counted}
 use Rattle.book.specs.MatrixRow.{row_checked, row_of}
 use Rattle.sheets.specs.Sheet.{entry_start, entry_at, empty_sheet}
-use Rattle.taking.specs.declared.Text.{Text}
-use Rattle.taking.specs.declared.Text.TheVariants as took
+use Rattle.taking.specs.declared.BadText.{BadText}
 use Rattle.taking.specs.Taking.{TextResult, take_of}
 use Rattle.tap.specs.declared.Taken.{Taken}
 use Rattle.tap.specs.declared.Taken.TheVariants as taken
@@ -58,9 +57,9 @@ abbrev pub sheet_shows : List ℕ → List ℕ → ℕ → List ℕ → List ℕ
 sheet_shows desk tree first draws sheet = pass_shows first 0 draws desk tree (zeros (path_len (sizes_of desk))) sheet
 
 -- a text that is read: nothing where the checks or the text refuse
-abbrev pub text_shows : Text → List ℕ → List ℕ → ℕ → List ℕ → List ℕ → List ℕ
-text_shows took.Good desk tree first draws sheet = sheet_shows desk tree first draws sheet
-text_shows (took.Bad trouble line) desk tree first draws sheet = []
+abbrev pub text_shows : Result (Unit {0}) BadText → List ℕ → List ℕ → ℕ → List ℕ → List ℕ → List ℕ
+text_shows (Ok u) desk tree first draws sheet = sheet_shows desk tree first draws sheet
+text_shows (Err b) desk tree first draws sheet = []
 
 abbrev pub taken_shows : TextResult → List ℕ → List ℕ → ℕ → List ℕ → List ℕ
 taken_shows r desk tree first draws = text_shows r.answer desk tree first draws r.sheet

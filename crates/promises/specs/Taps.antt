@@ -1,6 +1,6 @@
 -- TAP in and out. Over an honest server a text that is read is what the plain table then holds, and a text that is written is what the table says; on every
 -- input a text that is refused changes nothing. Assumes nothing.
-use Rattle.std.specs.Prelude.{ℕ, zero, suc, ◌+◌, ◌-◌, ◌<◌, ◌≤◌, ◌≡◌, ◌≢◌, ◌⊎◌, cond, ◌&&◌, List, [], ◌∷◌, ◌++◌, length, leb, ltb}
+use Rattle.std.specs.Prelude.{ℕ, zero, suc, ◌+◌, ◌-◌, ◌<◌, ◌≤◌, ◌≡◌, ◌≢◌, ◌⊎◌, cond, ◌&&◌, List, [], ◌∷◌, ◌++◌, length, leb, ltb, Ok, Err}
 use Rattle.std.proofs.Math.Option.{Option, none, some}
 use Rattle.words.specs.Bytes.{splice, zeros}
 use Rattle.sizes.specs.declared.Refusal.{Refusal}
@@ -14,8 +14,7 @@ use Rattle.keeping.specs.Table.{Table}
 use Rattle.book.specs.MatrixRow.{row_checked}
 use Rattle.sheets.specs.Sheet.{entry_at, is_record}
 use Rattle.taking.specs.declared.Trouble.{Trouble}
-use Rattle.taking.specs.declared.Text.TheVariants as took
-use Rattle.taking.specs.Taking.{take_of}
+use Rattle.taking.specs.Taking.{in_line, take_of}
 use Rattle.printing.specs.Printed.{room_of}
 use Rattle.printing.specs.Printing.{head_text, text_of}
 use Rattle.tap.specs.declared.Taken.TheVariants as taken
@@ -76,7 +75,7 @@ pub record PartRead (b : Start) (ts : TreeState) (chapter year first end : ℕ) 
 -- a text may be read: a row may begin, and the text is good
 pub record MayRead (b : Start) (ts : TreeState) (chapter year first end : ℕ) (draws text : List ℕ) : Type 0 where
   pub may_begin : MayBegin b ts first end draws
-  pub good : (take_of chapter year (end - first) text).answer ≡ took.Good
+  pub good : (take_of chapter year (end - first) text).answer ≡ Ok tt
 
 -- a text may be written: the desk is ready, its own checks refuse nothing, and its draws are leaves
 pub record MayWrite (b : Start) (ts : TreeState) (first end : ℕ) (draws out : List ℕ) : Type 0 where
@@ -119,9 +118,9 @@ pub record HonestTaps : Type 0 where
       → MayWrite b ts first end draws out → (q : Refusal) → (tap_write ts chapter first end draws out).answer ≡ printed.Refused q → q ≡ Worn
   -- there are texts that are read: on a fresh store, over a tree with any bytes, a good text for one id is, and every text that says a sheet is good
   pub first_text : (b : Start) (lent : List ℕ) → Proper b lent → 1 ≤ b.room → (tree : List ℕ) → length tree ≡ tree_len b.sizes
-      → (chapter year id draw : ℕ) → 1 ≤ id → id ≤ b.ids → AllLeaves b (draw ∷ []) → (text : List ℕ) → (take_of chapter year 1 text).answer ≡ took.Good
+      → (chapter year id draw : ℕ) → 1 ≤ id → id ≤ b.ids → AllLeaves b (draw ∷ []) → (text : List ℕ) → (take_of chapter year 1 text).answer ≡ Ok tt
       → (read_of (format_for b lent).desk tree chapter year id (id + 1) (draw ∷ []) text).answer ≡ taken.Done
-  pub good_texts : (chapter year n : ℕ) (sheet : List ℕ) → n < 65536 → (take_of chapter year n (text_of chapter n sheet)).answer ≡ took.Good
+  pub good_texts : (chapter year n : ℕ) (sheet : List ℕ) → n < 65536 → (take_of chapter year n (text_of chapter n sheet)).answer ≡ Ok tt
   -- and there are texts that are written: of one id of a fresh store, version and plan alone
   pub first_written : (b : Start) (lent : List ℕ) → Proper b lent → 1 ≤ b.room → (tree : List ℕ) → length tree ≡ tree_len b.sizes
       → (chapter id draw : ℕ) → 1 ≤ id → id ≤ b.ids → AllLeaves b (draw ∷ []) → (out : List ℕ) → length out ≡ room_of 1
@@ -140,7 +139,7 @@ pub record AnyTap : Type 0 where
       × ((write_of desk tree chapter first end draws out).tree ≡ tree)
   -- a text that is refused leaves the store as it was: no ask has come
   pub bad_text : (desk tree : List ℕ) (chapter year first end : ℕ) (draws text : List ℕ) (t : Trouble) (line : ℕ)
-      → row_checked desk tree first end draws ≡ outcome.Done → (take_of chapter year (end - first) text).answer ≡ took.Bad t line
+      → row_checked desk tree first end draws ≡ outcome.Done → (take_of chapter year (end - first) text).answer ≡ Err (in_line t line)
       → ((read_of desk tree chapter year first end draws text).answer ≡ taken.Bad t line) × ((read_of desk tree chapter year first end draws text).desk ≡ desk)
       × ((read_of desk tree chapter year first end draws text).tree ≡ tree)
   -- a refusal hands out no text: the buffer is as it was

@@ -1,6 +1,6 @@
 -- TAP in and out: a text read into the store for a range of ids, and the text that says the range. Number k of a text is id `first` + k − 1. What each
 -- answers, and what every buffer then holds, on every input. Assumes nothing.
-use Rattle.std.specs.Prelude.{ℕ, ◌-◌, Bool, not, List, [], ◌∷◌, ◌++◌, length, eqb}
+use Rattle.std.specs.Prelude.{ℕ, ◌-◌, Bool, not, List, [], ◌∷◌, ◌++◌, length, eqb, Result, Ok, Err}
 use Rattle.words.specs.Bytes.{splice}
 use Rattle.sizes.specs.declared.Refusal.{Refusal}
 use Rattle.sizes.specs.declared.Refusal.TheVariants.{BadLength}
@@ -9,8 +9,7 @@ use Rattle.sizes.specs.declared.Outcome.TheVariants as outcome
 use Rattle.sizes.specs.Refusals.{first_of}
 use Rattle.book.specs.MatrixRow.{row_rows, row_checked}
 use Rattle.printing.specs.Printed.{room_of}
-use Rattle.taking.specs.declared.Text.{Text}
-use Rattle.taking.specs.declared.Text.TheVariants as text
+use Rattle.taking.specs.declared.BadText.{BadText}
 use Rattle.sheets.specs.Sheet.{empty_sheet}
 use Rattle.taking.specs.Taking.{TextResult, take_of}
 use Rattle.printing.specs.Printing.{text_of}
@@ -38,9 +37,9 @@ abbrev pub read_passed : SheetResult → ReadResult
 read_passed r = read_in (taken_by r.answer) r.desk r.tree
 
 -- no ask comes before the whole text is read
-abbrev pub read_text : Text → List ℕ → List ℕ → ℕ → List ℕ → List ℕ → ReadResult
-read_text text.Good desk tree first draws sheet = read_passed (pass_of desk tree first draws sheet)
-read_text (text.Bad trouble line) desk tree first draws sheet = read_in (taken.Bad trouble line) desk tree
+abbrev pub read_text : Result (Unit {0}) BadText → List ℕ → List ℕ → ℕ → List ℕ → List ℕ → ReadResult
+read_text (Ok u) desk tree first draws sheet = read_passed (pass_of desk tree first draws sheet)
+read_text (Err b) desk tree first draws sheet = read_in (taken.Bad b.trouble b.line) desk tree
 
 abbrev pub read_taken : TextResult → List ℕ → List ℕ → ℕ → List ℕ → ReadResult
 read_taken r desk tree first draws = read_text r.answer desk tree first draws r.sheet

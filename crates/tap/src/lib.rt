@@ -12,7 +12,7 @@ ghost use Rattle.tap.specs.Tap.{read_in, read_taken, read_of, wrote, write_check
 
 use printing::print;
 use sizes::{Outcome, Refusal, Sizes};
-use taking::{Text, Trouble};
+use taking::Trouble;
 
 // What reading answers: the store's refusals, or the text's with the number of its line.
 #[derive(Clone, Copy, Drop)]
@@ -52,8 +52,11 @@ fn read_checked(
     ensures { read_in result desk.new tree.new ≡ read_taken (take_of chapter year (end - first) text.now) desk.old tree.old first draws.now }
 {
     match taking::take(sheet, chapter, year, (end - first) as usize, text) {
-        Text::Bad { trouble, line } => Taken::Bad { trouble, line },
-        Text::Good => match passing::pass_all(desk, tree, sheet, first, end, draws) {
+        Err(bad) => Taken::Bad {
+            trouble: bad.trouble,
+            line: bad.line,
+        },
+        Ok(()) => match passing::pass_all(desk, tree, sheet, first, end, draws) {
             Outcome::Refused(q) => Taken::Refused(q),
             Outcome::Done => Taken::Done,
         },

@@ -16,14 +16,14 @@ take-requires c = (empty-long (c.args.end - c.args.first) c.requires.1, omega (a
 pub pass_all-requires : goal.pass_all-requires
 pass_all-requires c = (c.requires.0, c.take.auto.sheet ∙ empty-long (c.args.end - c.args.first) c.requires.1)
 
-pub returns-in-Bad : goal.returns-in-Bad
-returns-in-Bad c =
-    text-bad c.args.desk.now c.args.tree.now c.args.chapter c.args.year c.args.first (c.args.end - c.args.first) c.args.draws.now c.args.text.now c.requires.1 c.take.ensures c.in-Bad.is
+pub returns-in-Err : goal.returns-in-Err
+returns-in-Err c =
+    text-bad c.args.desk.now c.args.tree.now c.args.chapter c.args.year c.args.first (c.args.end - c.args.first) c.args.draws.now c.args.text.now c.requires.1 c.take.ensures c.in-Err.is
 
 pub returns-in-Refused : goal.returns-in-Refused
 returns-in-Refused c =
-    text-good c.args.desk.now c.args.tree.now c.args.chapter c.args.year c.args.first (c.args.end - c.args.first) c.args.draws.now c.args.text.now c.requires.1 c.take.ensures c.in-Good.is c.pass_all.ensures c.in-Refused.is
+    text-good c.args.desk.now c.args.tree.now c.args.chapter c.args.year c.args.first (c.args.end - c.args.first) c.args.draws.now c.args.text.now c.requires.1 c.take.ensures c.in-Ok.is c.pass_all.ensures c.in-Refused.is
 
 pub returns-in-Done : goal.returns-in-Done
 returns-in-Done c =
-    text-good c.args.desk.now c.args.tree.now c.args.chapter c.args.year c.args.first (c.args.end - c.args.first) c.args.draws.now c.args.text.now c.requires.1 c.take.ensures c.in-Good.is c.pass_all.ensures c.in-Done.is
+    text-good c.args.desk.now c.args.tree.now c.args.chapter c.args.year c.args.first (c.args.end - c.args.first) c.args.draws.now c.args.text.now c.requires.1 c.take.ensures c.in-Ok.is c.pass_all.ensures c.in-Done.is
