@@ -40,7 +40,7 @@ pub taken_back : (a : Result Unit NotRead) {z : ℤ} → z ≡ taken_code a → 
 unfolding taken_code
 taken_back (Ok tt) e = ap (λ (z : ℤ). to_z w32 (of_z w32 z)) e
 taken_back (Err (not_read.Refused q)) e = code-back q e
-taken_back (Err (not_read.Bad t line)) e = trouble-back t e
+taken_back (Err (not_read.Bad b)) e = trouble-back b.trouble e
 
 -- ---- writing
 

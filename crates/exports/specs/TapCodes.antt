@@ -19,13 +19,13 @@ trouble_code t = neg_ℤ (pos (trouble_number t))
 unfoldable pub taken_code : Result Unit NotRead → ℤ
 taken_code (Ok tt) = pos done_code
 taken_code (Err (not_read.Refused r)) = refusal_code r
-taken_code (Err (not_read.Bad t line)) = trouble_code t
+taken_code (Err (not_read.Bad b)) = trouble_code b.trouble
 
 -- the line's number is handed out beside a text's refusal, and only there: what was lent stays
 unfoldable pub line_or : Result Unit NotRead → List ℕ → List ℕ
 line_or (Ok tt) lent = lent
 line_or (Err (not_read.Refused r)) lent = lent
-line_or (Err (not_read.Bad t line)) lent = line ∷ []
+line_or (Err (not_read.Bad b)) lent = b.line ∷ []
 
 pub record ReadAnswers (number : ℤ) (desk tree line lent : List ℕ) (due : ReadResult) : Type 0 where
   pub number_is : number ≡ taken_code due.answer

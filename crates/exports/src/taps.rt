@@ -14,7 +14,7 @@ const READ: i32 = 0;
 fn trouble_number(t: Trouble) -> i32
     ensures { result ≡ trouble_code t }
 {
-    -(taking::number(t) as i32)
+    -(u8::from(t) as i32)
 }
 
 fn taken_number(taken: Result<(), NotRead>) -> i32
@@ -23,7 +23,7 @@ fn taken_number(taken: Result<(), NotRead>) -> i32
     match taken {
         Ok(()) => READ,
         Err(NotRead::Refused(q)) => crate::refused(q),
-        Err(NotRead::Bad { trouble, line: _ }) => trouble_number(trouble),
+        Err(NotRead::Bad(bad)) => trouble_number(bad.trouble),
     }
 }
 
@@ -34,7 +34,7 @@ fn line_or(taken: Result<(), NotRead>, lent: [u64; 1]) -> [u64; 1]
     match taken {
         Ok(()) => lent,
         Err(NotRead::Refused(_)) => lent,
-        Err(NotRead::Bad { trouble: _, line }) => [line as u64],
+        Err(NotRead::Bad(bad)) => [bad.line as u64],
     }
 }
 

@@ -1,5 +1,4 @@
 -- TAP in and out, on every input: what is refused before any ask changes nothing, and a refusal hands out no text. Assumes nothing.
-use Rattle.std.specs.Prelude.{Err, Ok, Result}
 use Prim.Native.Nat.{ℕ, ◌-◌}
 use mathlib.Core.Path.{◌≡◌, refl, sym, ap, subst, ◌∙◌}
 use mathlib.Core.Logic.{◌≢◌}
@@ -13,10 +12,10 @@ use Rattle.sizes.specs.Refusals.{NoneOf}
 use Rattle.sizes.proofs.Rows.{none-applies}
 use Rattle.book.specs.MatrixRow.{row_rows, row_checked}
 use Rattle.sheets.specs.Sheet.{empty_sheet}
+use Rattle.std.specs.Prelude.{Result, Ok, Err}
 use Rattle.taking.specs.declared.Trouble.{Trouble}
-use Rattle.taking.specs.declared.Text.{Text}
-use Rattle.taking.specs.declared.Text.TheVariants as took
-use Rattle.taking.specs.Taking.{take_of}
+use Rattle.taking.specs.declared.BadText.{BadText}
+use Rattle.taking.specs.Taking.{in_line, take_of}
 use Rattle.printing.specs.Printed.{room_of}
 use Rattle.printing.specs.Printing.{text_of}
 use Rattle.tap.specs.declared.NotRead.TheVariants as not_read
@@ -33,9 +32,9 @@ module _ (desk tree : List ℕ) (chapter year first end : ℕ) (draws text : Lis
       → read_of desk tree chapter year first end draws text ≡ read_text (take_of chapter year (end - first) text).answer desk tree first draws sheet
   text-decides e = ap (λ (o : Result Unit Refusal). read_by o desk tree chapter year first end draws text) e
 
-  bad_text : (t : Trouble) (line : ℕ) → row_checked desk tree first end draws ≡ Ok tt → (take_of chapter year (end - first) text).answer ≡ took.Bad t line
-      → read_of desk tree chapter year first end draws text ≡ read_text (took.Bad t line) desk tree first draws sheet
-  bad_text t line e h = text-decides e ∙ ap (λ (a : Text). read_text a desk tree first draws sheet) h
+  bad_text : (t : Trouble) (line : ℕ) → row_checked desk tree first end draws ≡ Ok tt → (take_of chapter year (end - first) text).answer ≡ Err (in_line t line)
+      → read_of desk tree chapter year first end draws text ≡ read_text (Err (in_line t line)) desk tree first draws sheet
+  bad_text t line e h = text-decides e ∙ ap (λ (a : Result (Unit {0}) BadText). read_text a desk tree first draws sheet) h
 
 -- ---- a text that was read was refused by nothing
 
@@ -47,20 +46,20 @@ pub taken-same : (o : Result Unit Refusal) (q : Refusal) → taken_by o ≡ Err 
 taken-same (Ok tt) q h = let z : ◌≡◌ {A = ℕ} 0 1 = cc in absurd (omega arith)
 taken-same (Err p) q h = let k : p ≡ q = cc in ap Err k
 
-not-bad : (o : Result Unit Refusal) (t : Trouble) (line : ℕ) → taken_by o ≢ Err (not_read.Bad t line)
+not-bad : (o : Result Unit Refusal) (t : Trouble) (line : ℕ) → taken_by o ≢ Err (not_read.Bad (in_line t line))
 not-bad (Ok tt) t line h = let z : ◌≡◌ {A = ℕ} 0 1 = cc in omega arith
 not-bad (Err q) t line h = let z : ◌≡◌ {A = ℕ} 0 1 = cc in omega arith
 
 module _ (desk tree : List ℕ) (chapter year first end : ℕ) (draws text : List ℕ) where
   pub record WasRead : Type 0 where
     pub checked : row_checked desk tree first end draws ≡ Ok tt
-    pub good : (take_of chapter year (end - first) text).answer ≡ took.Good
+    pub good : (take_of chapter year (end - first) text).answer ≡ Ok tt
     pub passes : (pass_of desk tree first draws (sheet desk tree chapter year first end draws text)).answer ≡ Ok tt
 
-  by-text : (a : Text) → (take_of chapter year (end - first) text).answer ≡ a → row_checked desk tree first end draws ≡ Ok tt
+  by-text : (a : Result (Unit {0}) BadText) → (take_of chapter year (end - first) text).answer ≡ a → row_checked desk tree first end draws ≡ Ok tt
       → (read_text a desk tree first draws (sheet desk tree chapter year first end draws text)).answer ≡ Ok tt → WasRead
-  by-text took.Good k e h = record { checked = e; good = k; passes = taken-done _ h }
-  by-text (took.Bad t line) k e h = let z : ◌≡◌ {A = ℕ} 0 1 = cc in absurd (omega arith)
+  by-text (Ok u) k e h = record { checked = e; good = k; passes = taken-done _ h }
+  by-text (Err b) k e h = absurd (cc)
 
   by-checks : (o : Result Unit Refusal) → row_checked desk tree first end draws ≡ o → (read_by o desk tree chapter year first end draws text).answer ≡ Ok tt → WasRead
   by-checks (Err q) e h = let z : ◌≡◌ {A = ℕ} 0 1 = cc in absurd (omega arith)
@@ -70,15 +69,15 @@ module _ (desk tree : List ℕ) (chapter year first end : ℕ) (draws text : Lis
   was_read h = by-checks (row_checked desk tree first end draws) refl h
 
   -- and one that is good is not answered as bad
-  pub good-answer : (take_of chapter year (end - first) text).answer ≡ took.Good → (t : Trouble) (line : ℕ)
-      → (read_of desk tree chapter year first end draws text).answer ≢ Err (not_read.Bad t line)
+  pub good-answer : (take_of chapter year (end - first) text).answer ≡ Ok tt → (t : Trouble) (line : ℕ)
+      → (read_of desk tree chapter year first end draws text).answer ≢ Err (not_read.Bad (in_line t line))
   good-answer e t line h = go (row_checked desk tree first end draws) h
     where
-      go : (o : Result Unit Refusal) → (read_by o desk tree chapter year first end draws text).answer ≡ Err (not_read.Bad t line) → ⊥
+      go : (o : Result Unit Refusal) → (read_by o desk tree chapter year first end draws text).answer ≡ Err (not_read.Bad (in_line t line)) → ⊥
       go (Err q) k = let z : ◌≡◌ {A = ℕ} 0 1 = cc in omega arith
       go (Ok tt) k =
           not-bad (pass_of desk tree first draws (sheet desk tree chapter year first end draws text)).answer t line
-          (sym (ap (λ (a : Text). (read_text a desk tree first draws (sheet desk tree chapter year first end draws text)).answer) e) ∙ k)
+          (sym (ap (λ (a : Result (Unit {0}) BadText). (read_text a desk tree first draws (sheet desk tree chapter year first end draws text)).answer) e) ∙ k)
 
 -- ---- so was one that was written; no text where there is a refusal
 

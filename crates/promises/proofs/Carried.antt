@@ -23,7 +23,7 @@ use Rattle.verdicts.proofs.Laws.{verdict-laws}
 use Rattle.book.proofs.Passed.{row-passed}
 use Rattle.sheets.specs.Sheet.{entry_at, is_record}
 use Rattle.taking.specs.declared.Trouble.{Trouble}
-use Rattle.taking.specs.Taking.{TextResult, take_of}
+use Rattle.taking.specs.Taking.{in_line, TextResult, take_of}
 use Rattle.printing.specs.Printing.{text_of}
 use Rattle.tap.specs.declared.NotRead.TheVariants as not_read
 use Rattle.tap.specs.Tap.{ReadResult}
@@ -155,7 +155,7 @@ module _ (b : Start) (ts : TreeState) (chapter first end : ℕ) (o : Out b ts ch
       abbrev read : ReadResult
       read = tap_read ts' chapter year first' end' draws (text_in o)
 
-      not-bad : (t : Trouble) (line : ℕ) → read.answer ≢ Err (not_read.Bad t line)
+      not-bad : (t : Trouble) (line : ℕ) → read.answer ≢ Err (not_read.Bad (in_line t line))
       not-bad t line h =
           good-answer ts'.state.desk ts'.tree chapter year first' end' draws (text_in o)
           (ap (λ (r : TextResult). r.answer) taken_is ∙ returning.good chapter year n sheet low) t line h

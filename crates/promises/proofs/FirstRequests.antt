@@ -1,8 +1,7 @@
 -- The first request on a fresh store, of any kind, is accepted, and answers as an empty table does. Assumes nothing.
 use Rattle.sizes.specs.declared.Refusal.{Refusal}
 use Rattle.store.specs.declared.Finished.{Finished}
-use Rattle.std.specs.Prelude.{Result}
-use Rattle.std.specs.Prelude.{Ok}
+use Rattle.std.specs.Prelude.{Ok, Result}
 use Prim.Native.Nat.{ℕ, ◌+◌, ◌-◌, ◌<◌, ◌≤◌}
 use mathlib.Core.Path.{◌≡◌, refl, sym, ap, subst, ◌∙◌}
 use mathlib.Core.Option.{none}

@@ -1,6 +1,5 @@
 -- Demand 1 holds of our store. Assumes nothing.
-use Rattle.std.specs.Prelude.{Ok}
-use Rattle.std.specs.Prelude.{Err, Result}
+use Rattle.std.specs.Prelude.{Err, Result, Ok}
 use Prim.Native.Nat.{ℕ}
 use mathlib.Core.Path.{◌≡◌, refl, sym, ap, ◌∙◌}
 use mathlib.Core.Bool.{Bool, true, false}

@@ -1,6 +1,5 @@
 -- What is known of a desk and a path where finish got past its first four rows. Assumes nothing.
-use Rattle.std.specs.Prelude.{Result}
-use Rattle.std.specs.Prelude.{Err, Ok}
+use Rattle.std.specs.Prelude.{Err, Ok, Result}
 use Prim.Native.Nat.{ℕ, ◌≤◌}
 use mathlib.Core.Path.{◌≡◌, refl, ap}
 use mathlib.Core.Bool.{Bool, true, false, not, ◌&&◌}

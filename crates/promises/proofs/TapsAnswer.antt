@@ -1,6 +1,5 @@
 -- TAP over a server that returns what was last written, from a ready desk, with leaves drawn: once nothing is refused before the first ask, a text is read,
 -- or written, or it ends as a run of requests does. Assumes nothing.
-use Rattle.std.specs.Prelude.{Err, Ok, Result}
 use Prim.Native.Nat.{ℕ, suc, ◌+◌, ◌-◌, ◌*◌, ◌<◌, ◌≤◌}
 use mathlib.Core.Path.{◌≡◌, refl, sym, ap, ◌∙◌}
 use mathlib.Core.List.{List, [], ◌∷◌}
@@ -18,8 +17,9 @@ use Rattle.book.specs.MatrixRow.{row_checked}
 use Rattle.book.proofs.Passed.{row-passed}
 use Rattle.sheets.specs.Sheet.{entry_start, entry_at, empty_sheet}
 use Rattle.returning.proofs.Sheets.{fill-long}
-use Rattle.taking.specs.declared.Text.{Text}
 use Rattle.tap.specs.declared.NotRead.TheVariants as not_read
+use Rattle.std.specs.Prelude.{Result, Err, Ok}
+use Rattle.taking.specs.declared.BadText.{BadText}
 use Rattle.passing.specs.Passing.{EntryResult, kind_of, request_entry, PassResult, going_on, pass_from, pass_of}
 use Rattle.tap.specs.Tap.{ReadResult, read_text, write_by}
 use Rattle.promises.specs.Stores.{ours, Start}
@@ -94,7 +94,7 @@ module _ (b : Start) (byte : b.room < 256) (ts : TreeState) (reached : TreeReach
   read-ends chapter year first end draws text o q h =
       let sheet = sheet_of chapter year first end text in
       let m = o.may_begin in
-      let e = text-decides desk tree chapter year first end draws text m.checked ∙ ap (λ (a : Text). read_text a desk tree first draws sheet) o.good in
+      let e = text-decides desk tree chapter year first end draws text m.checked ∙ ap (λ (a : Result (Unit {0}) BadText). read_text a desk tree first draws sheet) o.good in
       sheet-ends b byte ts reached first end draws sheet m.ready m.checked m.all_leaves (taken-long chapter year (end - first) text) q
       (taken-same (pass_of desk tree first draws sheet).answer q (sym (ap (λ (r : ReadResult). r.answer) e) ∙ h))
 

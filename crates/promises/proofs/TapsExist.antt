@@ -1,6 +1,5 @@
 -- There are texts that are read, and texts that are written: on a fresh store a good text for one id is read, and its text is written, version and plan
 -- alone. Assumes nothing.
-use Rattle.std.specs.Prelude.{Ok, Result}
 use Rattle.sizes.specs.declared.Refusal.{Refusal}
 use Prim.Native.Nat.{ℕ, ◌+◌, ◌-◌, ◌*◌, ◌<◌, ◌≤◌}
 use mathlib.Core.Path.{◌≡◌, refl, sym, ap, ◌∙◌}
@@ -18,8 +17,8 @@ use Rattle.sheets.specs.Sheet.{entry_start, entry_at, empty_sheet}
 use Rattle.returning.specs.Returning.{reading_said}
 use Rattle.returning.proofs.Names.{zeros-bad}
 use Rattle.returning.proofs.Entries.{unsaid-text}
-use Rattle.taking.specs.declared.Text.{Text}
-use Rattle.taking.specs.declared.Text.TheVariants as took
+use Rattle.std.specs.Prelude.{Result, Ok}
+use Rattle.taking.specs.declared.BadText.{BadText}
 use Rattle.taking.specs.Taking.{take_of}
 use Rattle.printing.specs.Printed.{room_of}
 use Rattle.printing.specs.Printing.{head_text, entry_text, entries_text, text_of}
@@ -73,14 +72,14 @@ module _ (b : Start) (lent : List ℕ) (p : Proper b lent) (room : 1 ≤ b.room)
       (first-answer b lent p tree size room (kind_of entry) entry (length_part sheet (entry_start 0) record_len (omega arith)) (id + 0) draw (omega arith) (omega arith) leaf)
       ∙ plain_done (kind_of entry) none)
 
-  pub first_text : (chapter year : ℕ) (text : List ℕ) → (take_of chapter year 1 text).answer ≡ took.Good
+  pub first_text : (chapter year : ℕ) (text : List ℕ) → (take_of chapter year 1 text).answer ≡ Ok tt
       → (read_of desk tree chapter year id (id + 1) (draw ∷ []) text).answer ≡ Ok tt
   first_text chapter year text good =
       let n = id + 1 - id in
       let sheet = (take_of chapter year n text).sheet in
       let e = text-decides desk tree chapter year id (id + 1) (draw ∷ []) text (checked b lent p tree size id draw low high) in
-      let g : (take_of chapter year n text).answer ≡ took.Good = ap (λ (k : ℕ). (take_of chapter year k text).answer) (one-id id) ∙ good in
-      ap (λ (r : ReadResult). r.answer) e ∙ ap (λ (a : Text). (read_text a desk tree id (draw ∷ []) sheet).answer) g
+      let g : (take_of chapter year n text).answer ≡ Ok tt = ap (λ (k : ℕ). (take_of chapter year k text).answer) (one-id id) ∙ good in
+      ap (λ (r : ReadResult). r.answer) e ∙ ap (λ (a : Result (Unit {0}) BadText). (read_text a desk tree id (draw ∷ []) sheet).answer) g
       ∙ ap taken_by (passes sheet (omega (arith, taken-long chapter year n text)))
 
   module _ (chapter : ℕ) (out : List ℕ) (long : length out ≡ room_of 1) where

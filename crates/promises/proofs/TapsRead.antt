@@ -1,6 +1,5 @@
 -- A text that is read over a server that returns what was last written is what the plain table then holds, and what was done before a refusal stays.
 -- Assumes nothing.
-use Rattle.std.specs.Prelude.{Err, Ok, Result}
 use Rattle.sizes.specs.declared.Refusal.{Refusal}
 use Prim.Native.Nat.{ℕ, ◌-◌, ◌<◌, ◌≤◌}
 use mathlib.Core.Path.{◌≡◌, refl, sym, ap, ◌∙◌}
@@ -15,8 +14,8 @@ use Rattle.items.specs.Real.{real}
 use Rattle.keeping.specs.Table.{Table}
 use Rattle.book.specs.MatrixRow.{row_checked}
 use Rattle.book.proofs.Passed.{row-passed}
-use Rattle.taking.specs.declared.Text.{Text}
-use Rattle.taking.specs.declared.Text.TheVariants as took
+use Rattle.std.specs.Prelude.{Result, Ok, Err}
+use Rattle.taking.specs.declared.BadText.{BadText}
 use Rattle.taking.specs.Taking.{take_of}
 use Rattle.tap.specs.declared.NotRead.{NotRead}
 use Rattle.tap.specs.declared.NotRead.TheVariants as not_read
@@ -72,8 +71,8 @@ module _ (b : Start) (byte : b.room < 256) (ts : TreeState) (reached : TreeReach
           not_forged = f;
         }
 
-    by-text : (a : Text) → row_checked desk tree first end draws ≡ Ok tt → Read (read_text a desk tree first draws sheet)
-    by-text took.Good e =
+    by-text : (a : Result (Unit {0}) BadText) → row_checked desk tree first end draws ≡ Ok tt → Read (read_text a desk tree first draws sheet)
+    by-text (Ok u) e =
         let p = read-passes e in
         record {
           count = p.count;
@@ -82,8 +81,8 @@ module _ (b : Start) (byte : b.room < 256) (ts : TreeState) (reached : TreeReach
           all_done = λ h. p.all_done (taken-done (pass_of desk tree first draws sheet).answer h);
           not_forged = λ h. p.not_forged (taken-same (pass_of desk tree first draws sheet).answer Forged h);
         }
-    by-text (took.Bad t line) e =
-        unread (Err (not_read.Bad t line)) (λ h. let z : ◌≡◌ {A = ℕ} 0 1 = cc in omega arith) (λ h. let z : ◌≡◌ {A = ℕ} 0 1 = cc in omega arith)
+    by-text (Err b) e =
+        unread (Err (not_read.Bad b)) (λ h. let z : ◌≡◌ {A = ℕ} 0 1 = cc in omega arith) (λ h. let z : ◌≡◌ {A = ℕ} 0 1 = cc in omega arith)
 
     by-checks : (o : Result Unit Refusal) → row_checked desk tree first end draws ≡ o → Read (read_by o desk tree chapter year first end draws text)
     by-checks (Err q) e =

@@ -1,6 +1,5 @@
 -- A text of TAP that is read or written shows what requests of its range would show in some surroundings; it has asked for each id of the range, whatever
 -- it says. Assumes nothing.
-use Rattle.std.specs.Prelude.{Err, Ok, Result}
 use Rattle.sizes.specs.declared.Refusal.{Refusal}
 use Prim.Native.Nat.{ℕ, suc, ◌+◌, ◌-◌}
 use mathlib.Core.Path.{◌≡◌, refl, ap, ap₂, subst, subst₂, ◌∙◌}
@@ -18,8 +17,8 @@ use Rattle.requests.specs.Request.{request_of}
 use Rattle.book.specs.MatrixRow.{row_checked}
 use Rattle.book.proofs.Passed.{row-passed}
 use Rattle.sheets.specs.Sheet.{entry_start, entry_at, empty_sheet}
-use Rattle.taking.specs.declared.Text.{Text}
-use Rattle.taking.specs.declared.Text.TheVariants as took
+use Rattle.std.specs.Prelude.{Result, Ok, Err}
+use Rattle.taking.specs.declared.BadText.{BadText}
 use Rattle.taking.specs.Taking.{take_of}
 use Rattle.tap.specs.declared.NotRead.TheVariants as not_read
 use Rattle.passing.specs.Passing.{kind_of, outcome_of, request_entry, PassResult, passed, going_on, pass_from, SheetResult, pass_of}
@@ -112,15 +111,15 @@ module _ (desk tree : List ℕ) (first end : ℕ) (us xs : List ℕ) (more : Lis
   nothing : Here []
   nothing = shown-nothing desk (from first (end - first) ++ us) xs
 
-  abbrev text_then : Text → List ℕ → List ℕ
+  abbrev text_then : Result (Unit {0}) BadText → List ℕ → List ℕ
   text_then a sheet = let r = read_text a desk tree first ys sheet in text_shows a desk tree first ys sheet ++ go_on_taken r.answer (more r.desk)
 
-  text-shown : (a : Text) (sheet : List ℕ) → length ys ≡ end - first → Here (text_then a sheet)
-  text-shown took.Good sheet l =
+  text-shown : (a : Result (Unit {0}) BadText) (sheet : List ℕ) → length ys ≡ end - first → Here (text_then a sheet)
+  text-shown (Ok u) sheet l =
       let r = pass_of desk tree first ys sheet in
       subst (λ (w : List ℕ). Here (sheet_shows desk tree first ys sheet ++ w)) (on-taken r.answer (more r.desk))
       (sheet-shown desk tree first (end - first) us xs more on sheet l)
-  text-shown (took.Bad trouble line) sheet l = nothing
+  text-shown (Err b) sheet l = nothing
 
   pub tap-in-shown : (chapter year : ℕ) (text : List ℕ) (o : Result Unit Refusal) → row_checked desk tree first end ys ≡ o
       → Here
@@ -168,7 +167,7 @@ read_asked desk tree chapter year first end draws text h =
     let w = was_read desk tree chapter year first end draws text h in
     let sheet = (take_of chapter year (end - first) text).sheet in
     ap (λ (o : Result Unit Refusal). length (tap_in_shows_by o desk tree chapter year first end draws text)) w.checked
-    ∙ ap (λ (a : Text). length (text_shows a desk tree first draws sheet)) w.good
+    ∙ ap (λ (a : Result (Unit {0}) BadText). length (text_shows a desk tree first draws sheet)) w.good
     ∙ pass_all first 0 draws desk tree (zeros (path_len (sizes_of desk))) sheet w.passes
     ∙ (row-passed w.checked).draws_length
 

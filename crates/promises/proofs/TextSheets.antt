@@ -18,8 +18,8 @@ use Rattle.lines.specs.declared.Line.{Line}
 use Rattle.lines.specs.declared.Line.TheVariants as line
 use Rattle.lines.specs.Line.{line_of, description_in}
 use Rattle.sheets.specs.Sheet.{entry_start, empty_sheet}
-use Rattle.taking.specs.declared.Step.{Step}
-use Rattle.taking.specs.declared.Step.TheVariants.{Go, Stop}
+use Rattle.std.specs.Prelude.{Result, Ok, Err}
+use Rattle.taking.specs.declared.Trouble.{Trouble}
 use Rattle.taking.specs.Taking.{StepResult, is_bad_number, take_test, take_later, take_line, TextResult, going_on, take_lines, take_of}
 use Rattle.taking.proofs.OneLine.{test-readable}
 use Rattle.taking.proofs.Numbered.{good-within}
@@ -54,10 +54,10 @@ module _ (chapter year n : ℕ) where
     unfolding take_line
     line-long before = by_cases (eqb before 0) (λ e. rw e long) (λ e. rw e (later-long (line_of chapter xs) refl))
 
-  on-long : (before : ℕ) (r : StepResult) (more : Bool → TextResult) → Long r.sheet → ((p : Bool) → Long (more p).sheet) → (s : Step)
+  on-long : (before : ℕ) (r : StepResult) (more : Bool → TextResult) → Long r.sheet → ((p : Bool) → Long (more p).sheet) → (s : Result Bool Trouble)
       → Long (going_on before r more s).sheet
-  on-long before r more h f (Go p) = f p
-  on-long before r more h f (Stop t) = h
+  on-long before r more h f (Ok p) = f p
+  on-long before r more h f (Err t) = h
 
   lines_long : (before : ℕ) (planned : Bool) (sheet : List ℕ) (xss : List (List ℕ)) → Long sheet → Long (take_lines chapter year n before planned sheet xss).sheet
   unfolding take_lines

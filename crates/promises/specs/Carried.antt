@@ -1,5 +1,6 @@
 -- A text that is written from one store and read into another, both over an honest server: what the second then holds, by what the first holds. Assumes
 -- nothing.
+use Rattle.taking.specs.Taking.{in_line}
 use Rattle.std.specs.Prelude.{ℕ, ◌+◌, ◌-◌, ◌<◌, ◌≤◌, ◌≡◌, ◌≢◌, ◌⊎◌, false, List, length, take, Ok, Some, Err}
 use Rattle.std.proofs.Math.Option.{Option, none, some}
 use Rattle.sizes.specs.Sizes.{tree_len}
@@ -62,7 +63,7 @@ text_in {ts = ts} {chapter = chapter} {first = first} {end = end} o = take o.len
 pub record Carried : Type 0 where
   -- a range of the same length in another store, or in the same, takes it: no line of it is refused
   pub never_bad : (b : Start) (ts : TreeState) (chapter first end : ℕ) (o : Out b ts chapter first end) (ts' : TreeState) (year first' end' : ℕ) (draws : List ℕ)
-      → end' - first' ≡ end - first → (t : Trouble) (line : ℕ) → (tap_read ts' chapter year first' end' draws (text_in o)).answer ≢ Err (not_read.Bad t line)
+      → end' - first' ≡ end - first → (t : Trouble) (line : ℕ) → (tap_read ts' chapter year first' end' draws (text_in o)).answer ≢ Err (not_read.Bad (in_line t line))
   pub carried : (b : Start) (ts : TreeState) (chapter first end : ℕ) (o : Out b ts chapter first end)
       → (b' : Start) → b'.room < 256 → (ts' : TreeState) → TreeReached (ours real) b' ts' → (year first' end' : ℕ) (draws : List ℕ)
       → end' - first' ≡ end - first → (tap_read ts' chapter year first' end' draws (text_in o)).answer ≡ Ok tt

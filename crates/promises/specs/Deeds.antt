@@ -15,8 +15,7 @@ use Rattle.verdicts.specs.declared.counts.Counts.{Counts}
 use Rattle.verdicts.specs.declared.counts.Row.{Row}
 use Rattle.book.specs.MatrixRow.{row_checked, row_of}
 use Rattle.sheets.specs.Sheet.{entry_start, entry_at, empty_sheet}
-use Rattle.taking.specs.declared.Text.{Text}
-use Rattle.taking.specs.declared.Text.TheVariants as took
+use Rattle.taking.specs.declared.BadText.{BadText}
 use Rattle.taking.specs.Taking.{TextResult, take_of}
 use Rattle.tap.specs.declared.NotRead.{NotRead}
 use Rattle.tap.specs.declared.NotRead.TheVariants as not_read
@@ -54,9 +53,9 @@ abbrev pub sheet_shows : List ℕ → List ℕ → ℕ → List ℕ → List ℕ
 sheet_shows desk tree first draws sheet = pass_shows first 0 draws desk tree (zeros (path_len (sizes_of desk))) sheet
 
 -- a text that is read: nothing where the checks or the text refuse
-abbrev pub text_shows : Text → List ℕ → List ℕ → ℕ → List ℕ → List ℕ → List ℕ
-text_shows took.Good desk tree first draws sheet = sheet_shows desk tree first draws sheet
-text_shows (took.Bad trouble line) desk tree first draws sheet = []
+abbrev pub text_shows : Result (Unit {0}) BadText → List ℕ → List ℕ → ℕ → List ℕ → List ℕ → List ℕ
+text_shows (Ok u) desk tree first draws sheet = sheet_shows desk tree first draws sheet
+text_shows (Err b) desk tree first draws sheet = []
 
 abbrev pub taken_shows : TextResult → List ℕ → List ℕ → ℕ → List ℕ → List ℕ
 taken_shows r desk tree first draws = text_shows r.answer desk tree first draws r.sheet
@@ -102,7 +101,7 @@ go_on_row (Err q) more = []
 
 abbrev pub go_on_taken : Result Unit NotRead → List ℕ → List ℕ
 go_on_taken (Ok tt) more = more
-go_on_taken (Err (not_read.Bad trouble line)) more = []
+go_on_taken (Err (not_read.Bad b)) more = []
 go_on_taken (Err (not_read.Refused q)) more = []
 
 abbrev pub go_on_printed : Result ℕ Refusal → List ℕ → List ℕ

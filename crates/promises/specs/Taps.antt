@@ -13,8 +13,7 @@ use Rattle.keeping.specs.Table.{Table}
 use Rattle.book.specs.MatrixRow.{row_checked}
 use Rattle.sheets.specs.Sheet.{entry_at, is_record}
 use Rattle.taking.specs.declared.Trouble.{Trouble}
-use Rattle.taking.specs.declared.Text.TheVariants as took
-use Rattle.taking.specs.Taking.{take_of}
+use Rattle.taking.specs.Taking.{in_line, take_of}
 use Rattle.printing.specs.Printed.{room_of}
 use Rattle.printing.specs.Printing.{head_text, text_of}
 use Rattle.tap.specs.declared.NotRead.TheVariants as not_read
@@ -74,7 +73,7 @@ pub record PartRead (b : Start) (ts : TreeState) (chapter year first end : ℕ) 
 -- a text may be read: a row may begin, and the text is good
 pub record MayRead (b : Start) (ts : TreeState) (chapter year first end : ℕ) (draws text : List ℕ) : Type 0 where
   pub may_begin : MayBegin b ts first end draws
-  pub good : (take_of chapter year (end - first) text).answer ≡ took.Good
+  pub good : (take_of chapter year (end - first) text).answer ≡ Ok tt
 
 -- a text may be written: the desk is ready, its own checks refuse nothing, and its draws are leaves
 pub record MayWrite (b : Start) (ts : TreeState) (first end : ℕ) (draws out : List ℕ) : Type 0 where
@@ -97,7 +96,7 @@ pub record HonestTaps : Type 0 where
   pub read_answers : (b : Start) → b.room < 256 → (ts : TreeState) → TreeReached (ours real) b ts → (chapter year first end : ℕ) (draws text : List ℕ)
       → MayRead b ts chapter year first end draws text
       → ((q : Refusal) → (tap_read ts chapter year first end draws text).answer ≡ Err (not_read.Refused q) → (q ≡ Worn) ⊎ (q ≡ Full))
-      × ((t : Trouble) (line : ℕ) → (tap_read ts chapter year first end draws text).answer ≢ Err (not_read.Bad t line))
+      × ((t : Trouble) (line : ℕ) → (tap_read ts chapter year first end draws text).answer ≢ Err (not_read.Bad (in_line t line)))
   -- where the stash has room for every id, as Worn alone
   pub read_roomy : (b : Start) → b.room < 256 → b.ids ≤ b.room → (ts : TreeState) → TreeReached (ours real) b ts → (chapter year first end : ℕ) (draws text : List ℕ)
       → MayRead b ts chapter year first end draws text → (q : Refusal) → (tap_read ts chapter year first end draws text).answer ≡ Err (not_read.Refused q) → q ≡ Worn
@@ -117,9 +116,9 @@ pub record HonestTaps : Type 0 where
       → MayWrite b ts first end draws out → (q : Refusal) → (tap_write ts chapter first end draws out).answer ≡ Err q → q ≡ Worn
   -- there are texts that are read: on a fresh store, over a tree with any bytes, a good text for one id is, and every text that says a sheet is good
   pub first_text : (b : Start) (lent : List ℕ) → Proper b lent → 1 ≤ b.room → (tree : List ℕ) → length tree ≡ tree_len b.sizes
-      → (chapter year id draw : ℕ) → 1 ≤ id → id ≤ b.ids → AllLeaves b (draw ∷ []) → (text : List ℕ) → (take_of chapter year 1 text).answer ≡ took.Good
+      → (chapter year id draw : ℕ) → 1 ≤ id → id ≤ b.ids → AllLeaves b (draw ∷ []) → (text : List ℕ) → (take_of chapter year 1 text).answer ≡ Ok tt
       → (read_of (format_for b lent).desk tree chapter year id (id + 1) (draw ∷ []) text).answer ≡ Ok tt
-  pub good_texts : (chapter year n : ℕ) (sheet : List ℕ) → n < 65536 → (take_of chapter year n (text_of chapter n sheet)).answer ≡ took.Good
+  pub good_texts : (chapter year n : ℕ) (sheet : List ℕ) → n < 65536 → (take_of chapter year n (text_of chapter n sheet)).answer ≡ Ok tt
   -- and there are texts that are written: of one id of a fresh store, version and plan alone
   pub first_written : (b : Start) (lent : List ℕ) → Proper b lent → 1 ≤ b.room → (tree : List ℕ) → length tree ≡ tree_len b.sizes
       → (chapter id draw : ℕ) → 1 ≤ id → id ≤ b.ids → AllLeaves b (draw ∷ []) → (out : List ℕ) → length out ≡ room_of 1
@@ -138,8 +137,8 @@ pub record AnyTap : Type 0 where
       × ((write_of desk tree chapter first end draws out).tree ≡ tree)
   -- a text that is refused leaves the store as it was: no ask has come
   pub bad_text : (desk tree : List ℕ) (chapter year first end : ℕ) (draws text : List ℕ) (t : Trouble) (line : ℕ)
-      → row_checked desk tree first end draws ≡ Ok tt → (take_of chapter year (end - first) text).answer ≡ took.Bad t line
-      → ((read_of desk tree chapter year first end draws text).answer ≡ Err (not_read.Bad t line)) × ((read_of desk tree chapter year first end draws text).desk ≡ desk)
+      → row_checked desk tree first end draws ≡ Ok tt → (take_of chapter year (end - first) text).answer ≡ Err (in_line t line)
+      → ((read_of desk tree chapter year first end draws text).answer ≡ Err (not_read.Bad (in_line t line))) × ((read_of desk tree chapter year first end draws text).desk ≡ desk)
       × ((read_of desk tree chapter year first end draws text).tree ≡ tree)
   -- a refusal hands out no text: the buffer is as it was
   pub no_text : (desk tree : List ℕ) (chapter first end : ℕ) (draws out : List ℕ) (q : Refusal)

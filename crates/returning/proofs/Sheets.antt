@@ -14,7 +14,7 @@ use Rattle.window.proofs.Pieces.{none-handed}
 use Rattle.verdicts.specs.Verdict.{record_of}
 use Rattle.lines.specs.Line.{description_in}
 use Rattle.sheets.specs.Sheet.{entry_start, entry_at}
-use Rattle.taking.specs.declared.Text.TheVariants.{Good}
+use Rattle.std.specs.Prelude.{Ok}
 use Rattle.taking.specs.Taking.{TextResult, take_lines}
 use Rattle.printing.specs.Printing.{entry_text, entries_text}
 use Rattle.returning.specs.Returning.{is_said}
@@ -49,7 +49,7 @@ pub record Empty (n i : ℕ) (now : List ℕ) : Type 0 where
 
 -- what was there below i stays, and the others are what comes of their entries
 pub record Filled (chapter year n i : ℕ) (sheet now : List ℕ) (r : TextResult) : Type 0 where
-  pub good : r.answer ≡ Good
+  pub good : r.answer ≡ Ok tt
   pub kept : (j : ℕ) → j < i → entry_at r.sheet j ≡ entry_at now j
   pub come : (j : ℕ) → i ≤ j → j < n → Comes chapter year (entry_at sheet j) (entry_at r.sheet j)
 

@@ -1,5 +1,5 @@
 -- What comes back of a sheet that is written as a text and read again, on bytes. Assumes nothing.
-use Rattle.std.specs.Prelude.{ℕ, ◌-◌, ◌<◌, ◌≡◌, ◌≢◌, Bool, true, false, ◌&&◌, List, length, get_or, eqb, None, Option, Some}
+use Rattle.std.specs.Prelude.{ℕ, ◌-◌, ◌<◌, ◌≡◌, ◌≢◌, Bool, true, false, ◌&&◌, List, length, get_or, eqb, None, Option, Some, Ok}
 use Rattle.words.specs.Bytes.{zeros}
 use Rattle.text.specs.Text.{space}
 use Rattle.text.specs.Fronts.{before}
@@ -10,7 +10,6 @@ use Rattle.verdicts.specs.declared.Entry.{Entry}
 use Rattle.verdicts.specs.Verdict.{reading_of, name_in, record_of}
 use Rattle.lines.specs.Words.{hash}
 use Rattle.sheets.specs.Sheet.{entry_at}
-use Rattle.taking.specs.declared.Text.TheVariants as text
 use Rattle.taking.specs.Taking.{TextResult, take_of}
 use Rattle.printing.specs.Printed.{is_printable}
 use Rattle.printing.specs.Printing.{text_of}
@@ -43,7 +42,7 @@ pub record WasPass (chapter : ℕ) (rec : List ℕ) : Type 0 where
 
 pub record Returning : Type 0 where
   -- what is written is never refused as a text, whatever the sheet holds
-  pub good : (chapter year n : ℕ) (sheet : List ℕ) → n < 65536 → (back chapter year n sheet).answer ≡ text.Good
+  pub good : (chapter year n : ℕ) (sheet : List ℕ) → n < 65536 → (back chapter year n sheet).answer ≡ Ok tt
   -- an entry that got no line comes back as none: so an id that is Never before is Never after
   pub none_comes : (chapter year n : ℕ) (sheet : List ℕ) → n < 65536
       → (i : ℕ) → i < n → is_said chapter (entry_at sheet i) ≡ false → entry_at (back chapter year n sheet).sheet i ≡ zeros record_len

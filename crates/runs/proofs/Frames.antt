@@ -1,5 +1,4 @@
 -- A step leaves the buffers that its line does not name as they were, and a run stays sound. Assumes nothing.
-use Rattle.std.specs.Prelude.{Err, Ok, Result}
 use Rattle.sizes.specs.declared.Refusal.{Refusal}
 use Prim.Native.Nat.{ℕ, ◌+◌, ◌≤◌}
 use mathlib.Core.Path.{◌≡◌, refl, sym, ap, subst}
@@ -10,7 +9,7 @@ use lib.ListN.{take}
 use Rattle.formats.specs.Format.{format_checked, format_of}
 use Rattle.formats.proofs.Passed.{format-passed}
 use Rattle.setup.specs.declared.Store.{Store}
-use Rattle.std.specs.Prelude.{Option, Some, None}
+use Rattle.std.specs.Prelude.{Option, Some, None, Err, Ok, Result}
 use Rattle.setup.specs.Setup.{store_of, start_good, start_leaves}
 use Rattle.setup.proofs.Bounds.{store-fits}
 use Rattle.script.specs.declared.Request.{Request}

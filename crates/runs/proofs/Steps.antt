@@ -1,5 +1,4 @@
 -- What a step comes to, from what its calls answered; and the bounds that the shelf's buffers go by. Assumes nothing.
-use Rattle.std.specs.Prelude.{Result}
 use Rattle.sizes.specs.declared.Refusal.{Refusal}
 use Prim.Native.Nat.{ℕ, zero, suc, ◌+◌, ◌≤◌}
 use mathlib.Core.Path.{◌≡◌, refl, sym, ap, subst, ◌∙◌}
@@ -17,7 +16,7 @@ use Rattle.requests.specs.Request as requests
 use Rattle.requests.specs.Request.{RequestResult, requested}
 use Rattle.setup.specs.declared.Store.{Store}
 use Rattle.setup.specs.Setup.{start_good, start_leaves, most_shelf_height}
-use Rattle.std.specs.Prelude.{Option, Some}
+use Rattle.std.specs.Prelude.{Option, Some, Result}
 use Rattle.script.specs.declared.Request.{Request}
 use Rattle.script.specs.Lines.{request_of, record_of}
 use Rattle.listing.specs.Listing.{Wrote, most_row}

@@ -16,7 +16,7 @@ use Rattle.lines.specs.declared.Test.{Test}
 use Rattle.lines.specs.Line.{description_in}
 use Rattle.sheets.specs.Sheet.{entry_start, is_record}
 use Rattle.taking.specs.declared.Trouble.TheVariants.{BadPlan}
-use Rattle.taking.specs.declared.Step.TheVariants.{Go, Stop}
+use Rattle.std.specs.Prelude.{Ok, Err}
 use Rattle.taking.specs.Taking.{stepped, is_bad_number, take_test}
 
 pub record Within (n k : ℕ) : Type 0 where
@@ -45,7 +45,7 @@ module _ (n : ℕ) (sheet : List ℕ) (k : ℕ) where
       left true b h = h
 
 module _ (chapter year n : ℕ) (planned : Bool) (sheet xs : List ℕ) (t : Test) where
-  pub number-refused : {r : Bool} → r ≡ is_bad_number n sheet t.number → r ≡ true → stepped (Stop BadPlan) sheet ≡ take_test chapter year n planned sheet xs t
+  pub number-refused : {r : Bool} → r ≡ is_bad_number n sheet t.number → r ≡ true → stepped (Err BadPlan) sheet ≡ take_test chapter year n planned sheet xs t
   number-refused g h = rw (sym g ∙ h)
 
   module _ (good : is_bad_number n sheet t.number ≡ false) (long : length sheet ≡ n * record_len) (can : can_be_read chapter (description_in xs t) ≡ true) where
@@ -59,6 +59,6 @@ module _ (chapter year n : ℕ) (planned : Bool) (sheet xs : List ℕ) (t : Test
 
     pub number-taken : {made : Bool} {ys : List ℕ} (m l : ℕ) → m ≡ record_len → l ≡ t.length
         → making made ys ≡ make_of (part sheet (entry_start (t.number - 1)) m) t.verdict chapter year (part xs t.from l) → length ys ≡ length (part sheet (entry_start (t.number - 1)) m)
-        → stepped (Go planned) (take (entry_start (t.number - 1)) sheet ++ (ys ++ drop m (drop (entry_start (t.number - 1)) sheet))) ≡ take_test chapter year n planned sheet xs t
+        → stepped (Ok planned) (take (entry_start (t.number - 1)) sheet ++ (ys ++ drop m (drop (entry_start (t.number - 1)) sheet))) ≡ take_test chapter year n planned sheet xs t
     number-taken {ys = ys} m l e f h k =
-        ap (λ (s : List ℕ). stepped (Go planned) s) (spliced sheet (entry_start (t.number - 1)) m ys (k ∙ length_part sheet (entry_start (t.number - 1)) m (omega (arith, e, room)))) ∙ rw (good, made-is (h ∙ rw (e, f)))
+        ap (λ (s : List ℕ). stepped (Ok planned) s) (spliced sheet (entry_start (t.number - 1)) m ys (k ∙ length_part sheet (entry_start (t.number - 1)) m (omega (arith, e, room)))) ∙ rw (good, made-is (h ∙ rw (e, f)))

@@ -15,7 +15,8 @@ use Rattle.lines.specs.declared.Line.{Line}
 use Rattle.lines.specs.declared.Line.TheVariants as line
 use Rattle.lines.specs.Words.{hash, version_line, plan_word, ok_word, not_ok_word}
 use Rattle.lines.specs.Line.{capped, ends_number, only_spaces, description_at, test_from, description_in, held_by, test_after, plan_after, line_of}
-use Rattle.taking.specs.declared.Step.{Step}
+use Rattle.std.specs.Prelude.{Result}
+use Rattle.taking.specs.declared.Trouble.{Trouble}
 use Rattle.taking.specs.Taking.{StepResult, stepped, take_first, take_later, take_line}
 
 -- ---- a test line's description can be held by a record
@@ -69,7 +70,7 @@ module _ (chapter : ℕ) (xs : List ℕ) where
 -- ---- what a line does
 
 module _ (chapter year n before : ℕ) (planned : Bool) (sheet xs : List ℕ) {l : Line} (e : l ≡ line_of chapter xs) where
-  pub first-line : before ≡ 0 → {s : Step} → s ≡ take_first l → stepped s sheet ≡ take_line chapter year n before planned sheet xs
+  pub first-line : before ≡ 0 → {s : Result Bool Trouble} → s ≡ take_first l → stepped s sheet ≡ take_line chapter year n before planned sheet xs
   unfolding take_line
   first-line z g = rw (g, eq-eqb _ _ z, e)
 

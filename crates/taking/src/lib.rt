@@ -18,28 +18,23 @@ pub enum Trouble {
     BadPlan,
 }
 
-// What a line comes to: on to the next, where `Go` says whether the plan has come; or the line's trouble.
-#[derive(Clone, Copy, Drop)]
-pub enum Step {
-    Go(bool),
-    Stop(Trouble),
-}
-
-// What a text comes to: its lines count from 1.
-#[derive(Clone, Copy, Drop)]
-pub enum Text {
-    Good,
-    Bad { trouble: Trouble, line: usize },
-}
-
 // They are numbered on from the store's.
-pub fn number(trouble: Trouble) -> u8
-    ensures { result ≡ trouble_number trouble }
-{
-    match trouble {
-        Trouble::Malformed => 12,
-        Trouble::BadPlan => 13,
+impl From<Trouble> for u8 {
+    ghost from_gives = { λ trouble r. r ≡ trouble_number trouble };
+
+    fn from(trouble: Trouble) -> u8 {
+        match trouble {
+            Trouble::Malformed => 12,
+            Trouble::BadPlan => 13,
+        }
     }
+}
+
+// What is wrong with a text, and in which line: its lines count from 1.
+#[derive(Clone, Copy, Debug, PartialEq, Eq)]
+pub struct BadText {
+    pub trouble: Trouble,
+    pub line: usize,
 }
 
 // Whether a number is none of 1 to `n`, or is taken.
@@ -55,7 +50,7 @@ fn is_bad_number(sheet: &[u8], n: usize, k: u64) -> bool
     sheets::is_record(&sheet[at..at + Sizes::RECORD])
 }
 
-// A test line's record goes to its number's place.
+// A test line's record goes to its number's place. Answers whether the plan has come then, as each line does.
 fn take_test(
     sheet: &mut [u8],
     chapter: u8,
@@ -64,12 +59,12 @@ fn take_test(
     planned: bool,
     line: &[u8],
     test: Test,
-) -> Step
+) -> Result<bool, Trouble>
     requires { (length sheet.old ≡ n * record_len) × (n < 65536) × (test.from + test.length ≤ length line.now) × (can_be_read chapter (description_in line.now test) ≡ true) }
     ensures { stepped result sheet.new ≡ take_test chapter year n planned sheet.old line.now test }
 {
     if is_bad_number(sheet, n, test.number) {
-        return Step::Stop(Trouble::BadPlan);
+        return Err(Trouble::BadPlan);
     }
     let at = (test.number as usize - 1) * Sizes::RECORD;
     let from = test.from;
@@ -82,31 +77,28 @@ fn take_test(
         year,
         &line[from..to],
     );
-    Step::Go(planned)
+    Ok(planned)
 }
 
-fn take_plan(n: usize, planned: bool, k: u64) -> Step
+fn take_plan(n: usize, planned: bool, k: u64) -> Result<bool, Trouble>
     ensures { result ≡ take_plan n planned k }
 {
     if planned {
-        return Step::Stop(Trouble::Malformed);
+        return Err(Trouble::Malformed);
     }
     if k != n as u64 {
-        return Step::Stop(Trouble::BadPlan);
+        return Err(Trouble::BadPlan);
     }
-    Step::Go(!planned)
+    Ok(true)
 }
 
 // The first line is the version.
-fn take_first(line: Line) -> Step
+fn take_first(line: Line) -> Result<bool, Trouble>
     ensures { result ≡ take_first line }
 {
     match line {
-        Line::Version => Step::Go(false),
-        Line::Plan(_) => Step::Stop(Trouble::Malformed),
-        Line::Test(_) => Step::Stop(Trouble::Malformed),
-        Line::Comment => Step::Stop(Trouble::Malformed),
-        Line::Malformed => Step::Stop(Trouble::Malformed),
+        Line::Version => Ok(false),
+        _ => Err(Trouble::Malformed),
     }
 }
 
@@ -119,7 +111,7 @@ fn take_line(
     before: usize,
     planned: bool,
     line: &[u8],
-) -> Step
+) -> Result<bool, Trouble>
     requires { (length sheet.old ≡ n * record_len) × (n < 65536) }
     ensures { stepped result sheet.new ≡ take_line chapter year n before planned sheet.old line.now }
 {
@@ -128,50 +120,46 @@ fn take_line(
         return take_first(said);
     }
     match said {
-        Line::Version => Step::Stop(Trouble::Malformed),
+        Line::Version => Err(Trouble::Malformed),
         Line::Plan(k) => take_plan(n, planned, k),
         Line::Test(test) => take_test(sheet, chapter, year, n, planned, line, test),
-        Line::Comment => Step::Go(planned),
-        Line::Malformed => Step::Stop(Trouble::Malformed),
+        Line::Comment => Ok(planned),
+        Line::Malformed => Err(Trouble::Malformed),
     }
 }
 
 // A plan that is missing, or a version, is malformed one line past the end.
-fn at_end(before: usize, planned: bool) -> Text
+fn at_end(before: usize, planned: bool) -> Result<(), BadText>
     requires { before + 1 < 18446744073709551616 }
     ensures { result ≡ at_end before planned }
 {
     if planned {
-        return Text::Good;
+        return Ok(());
     }
-    Text::Bad {
+    Err(BadText {
         trouble: Trouble::Malformed,
         line: before + 1,
-    }
+    })
 }
 
 // A whole text, for `n` numbers.
-pub fn take(sheet: &mut [u8], chapter: u8, year: u16, n: usize, text: &[u8]) -> Text
+pub fn take(sheet: &mut [u8], chapter: u8, year: u16, n: usize, text: &[u8]) -> Result<(), BadText>
     requires { (length sheet.old ≡ n * record_len) × (n < 65536) }
     ensures { took result sheet.new ≡ take_into chapter year n sheet.old text.now }
 {
-    let mut from = 0;
+    let mut rest = text;
     let mut before = 0;
     let mut planned = false;
-    while from < text.len() {
-        let end = from + bytes::before(&text[from..], window::LINE_FEED);
-        match take_line(sheet, chapter, year, n, before, planned, &text[from..end]) {
-            Step::Stop(trouble) => {
-                return Text::Bad {
-                    trouble,
-                    line: before + 1,
-                };
-            }
-            Step::Go(p) => planned = p,
-        }
-        before += 1;
-        // After a last line without a line feed this is one past the text's end.
-        from = end + 1;
+    // Not a `for` over `split_inclusive`: its contract does not say which pieces it gives.
+    while !rest.is_empty() {
+        let end = bytes::before(rest, window::LINE_FEED);
+        let line = before + 1;
+        planned = take_line(sheet, chapter, year, n, before, planned, &rest[..end]).map_err(
+            |trouble| BadText { trouble, line },
+        )?;
+        before = line;
+        // A last line may lack its line feed.
+        rest = &rest[(end + 1).min(rest.len())..];
     }
     at_end(before, planned)
 }

@@ -1,31 +1,29 @@
 -- Reading: what a text came to, and the pass of its sheet, give the answer. Assumes nothing.
-use Rattle.std.specs.Prelude.{Err, Ok, Result}
 use Prim.Native.Nat.{ℕ, ◌-◌}
 use mathlib.Core.Path.{◌≡◌, sym, ap, ◌∙◌}
 use mathlib.Core.List.{List}
 use Rattle.sizes.specs.declared.Refusal.{Refusal}
 use Rattle.book.specs.MatrixRow.{row_checked}
 use Rattle.sheets.specs.Sheet.{empty_sheet}
-use Rattle.taking.specs.declared.Trouble.{Trouble}
-use Rattle.taking.specs.declared.Text.{Text}
-use Rattle.taking.specs.declared.Text.TheVariants as text
+use Rattle.taking.specs.declared.BadText.{BadText}
+use Rattle.std.specs.Prelude.{Result, Ok, Err}
 use Rattle.taking.specs.Taking.{TextResult, took, take_into, take_of}
 use Rattle.tap.specs.declared.NotRead.{NotRead}
 use Rattle.tap.specs.declared.NotRead.TheVariants as not_read
 use Rattle.passing.specs.Passing.{sheet_passed, pass_of}
 use Rattle.tap.specs.Tap.{read_in, taken_by, read_passed, read_text, read_taken, read_by, read_of}
 
-module _ (desk tree : List ℕ) (chapter year first n : ℕ) (draws words : List ℕ) {sheet : List ℕ} (z : sheet ≡ empty_sheet n) {r : Text} {s : List ℕ}
+module _ (desk tree : List ℕ) (chapter year first n : ℕ) (draws words : List ℕ) {sheet : List ℕ} (z : sheet ≡ empty_sheet n) {r : Result (Unit {0}) BadText} {s : List ℕ}
     (e : took r s ≡ take_into chapter year n sheet words) where
-  by-text : {x : Text} → r ≡ x → read_text x desk tree first draws s ≡ read_taken (take_of chapter year n words) desk tree first draws
+  by-text : {x : Result (Unit {0}) BadText} → r ≡ x → read_text x desk tree first draws s ≡ read_taken (take_of chapter year n words) desk tree first draws
   by-text h =
-      ap (λ (x : Text). read_text x desk tree first draws s) (sym h)
+      ap (λ (x : Result (Unit {0}) BadText). read_text x desk tree first draws s) (sym h)
       ∙ ap (λ (x : TextResult). read_taken x desk tree first draws) (e ∙ ap (λ (y : List ℕ). take_into chapter year n y words) z)
 
-  pub text-bad : {trouble : Trouble} {line : ℕ} → r ≡ text.Bad trouble line → read_in (Err (not_read.Bad trouble line)) desk tree ≡ read_taken (take_of chapter year n words) desk tree first draws
+  pub text-bad : {b : BadText} → r ≡ Err b → read_in (Err (not_read.Bad b)) desk tree ≡ read_taken (take_of chapter year n words) desk tree first draws
   text-bad h = by-text h
 
-  pub text-good : r ≡ text.Good → {o p : Result Unit Refusal} {d t y : List ℕ} → sheet_passed o d t y ≡ pass_of desk tree first draws s → o ≡ p
+  pub text-good : r ≡ Ok tt → {o p : Result Unit Refusal} {d t y : List ℕ} → sheet_passed o d t y ≡ pass_of desk tree first draws s → o ≡ p
       → read_in (taken_by p) d t ≡ read_taken (take_of chapter year n words) desk tree first draws
   text-good h {d = d} {t = t} k g = ap (λ (x : Result Unit Refusal). read_in (taken_by x) d t) (sym g) ∙ ap read_passed k ∙ by-text h
 

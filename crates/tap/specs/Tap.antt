@@ -7,8 +7,7 @@ use Rattle.sizes.specs.declared.Refusal.TheVariants.{BadLength}
 use Rattle.sizes.specs.Refusals.{first_of}
 use Rattle.book.specs.MatrixRow.{row_rows, row_checked}
 use Rattle.printing.specs.Printed.{room_of}
-use Rattle.taking.specs.declared.Text.{Text}
-use Rattle.taking.specs.declared.Text.TheVariants as text
+use Rattle.taking.specs.declared.BadText.{BadText}
 use Rattle.sheets.specs.Sheet.{empty_sheet}
 use Rattle.taking.specs.Taking.{TextResult, take_of}
 use Rattle.printing.specs.Printing.{text_of}
@@ -34,9 +33,9 @@ abbrev pub read_passed : SheetResult → ReadResult
 read_passed r = read_in (taken_by r.answer) r.desk r.tree
 
 -- no ask comes before the whole text is read
-abbrev pub read_text : Text → List ℕ → List ℕ → ℕ → List ℕ → List ℕ → ReadResult
-read_text text.Good desk tree first draws sheet = read_passed (pass_of desk tree first draws sheet)
-read_text (text.Bad trouble line) desk tree first draws sheet = read_in (Err (not_read.Bad trouble line)) desk tree
+abbrev pub read_text : Result (Unit {0}) BadText → List ℕ → List ℕ → ℕ → List ℕ → List ℕ → ReadResult
+read_text (Ok u) desk tree first draws sheet = read_passed (pass_of desk tree first draws sheet)
+read_text (Err b) desk tree first draws sheet = read_in (Err (not_read.Bad b)) desk tree
 
 abbrev pub read_taken : TextResult → List ℕ → List ℕ → ℕ → List ℕ → ReadResult
 read_taken r desk tree first draws = read_text r.answer desk tree first draws r.sheet

@@ -12,13 +12,21 @@ ghost use Rattle.tap.specs.Tap.{read_in, read_taken, read_of, wrote, write_check
 
 use printing::print;
 use sizes::{Refusal, Sizes};
-use taking::{Text, Trouble};
+use taking::BadText;
 
 // Why a text was not read into the store: the store's refusals, or the text's with the number of its line.
 #[derive(Clone, Copy, Debug, PartialEq, Eq)]
 pub enum NotRead {
     Refused(Refusal),
-    Bad { trouble: Trouble, line: usize },
+    Bad(BadText),
+}
+
+impl From<BadText> for NotRead {
+    ghost from_gives = { λ bad e. e ≡ not_read.Bad bad };
+
+    fn from(bad: BadText) -> NotRead {
+        NotRead::Bad(bad)
+    }
 }
 
 impl From<Refusal> for NotRead {
@@ -51,13 +59,9 @@ fn read_checked(
     requires { (row_checked desk.old tree.old first end draws.now ≡ Ok tt) × (sheet.old ≡ empty_sheet (end - first)) }
     ensures { read_in result desk.new tree.new ≡ read_taken (take_of chapter year (end - first) text.now) desk.old tree.old first draws.now }
 {
-    match taking::take(sheet, chapter, year, (end - first) as usize, text) {
-        Text::Bad { trouble, line } => Err(NotRead::Bad { trouble, line }),
-        Text::Good => {
-            passing::pass_all(desk, tree, sheet, first, end, draws)?;
-            Ok(())
-        }
-    }
+    taking::take(sheet, chapter, year, (end - first) as usize, text)?;
+    passing::pass_all(desk, tree, sheet, first, end, draws)?;
+    Ok(())
 }
 
 // Reads a text for the ids from `first` up to, not including, `end`, of a chapter and a suite year, with one draw for each id.

@@ -1,65 +1,38 @@
 -- `taking::take` meets its contract: at each turn, what is left to do comes to what the whole text is. Assumes nothing.
-use Prim.Native.Nat.{◌+◌, ◌≤◌, ◌<◌}
-use mathlib.Core.Path.{refl, ap, ◌∙◌}
+use Prim.Native.Nat.{ℕ, ◌+◌, ◌<◌}
+use mathlib.Core.Path.{◌≡◌, sym, ap, ◌∙◌}
+use mathlib.Core.Bool.{Bool}
 use native.Mathlib.Omega.{arith}
+use borrow.Author.Tests.{eqb-true, eqb-false}
 use lib.ListN.{length}
-use Rattle.taking.specs.declared.Text.{Text}
-use Rattle.taking.specs.Taking.{took}
-use Rattle.taking.proofs.Turns.{begun, line_taken, line_refused, no_more}
+use Rattle.std.proofs.lemmas.Grind.{common_steps}
+use Rattle.std.specs.Prelude.{Result, Ok, Err, MatchResult}
+use Rattle.taking.specs.declared.Trouble.{Trouble}
+use Rattle.taking.specs.declared.BadText.{BadText}
+use Rattle.taking.specs.Taking.{took, in_line}
+use Rattle.taking.proofs.Turns.{line_taken, text_refused, no_more}
 use Rattle.taking.proofs.take.Goals as goal
 
-pub loop-from-init : goal.loop-from-init
-loop-from-init c = let a = c.args in (begun a.chapter a.year a.n a.text.now a.sheet.now, refl)
-
-pub take_line-requires : goal.take_line-requires
-take_line-requires c = (c.loop-from.invariant.1 ∙ c.requires.0, c.requires.1)
-
-pub overflow_add-result : goal.overflow_add-result
-overflow_add-result c =
-    let low : c.loop-from.from < length c.args.text.now = omega arith in
-    omega (arith, c.loop-from.invariant.0.few, low)
-
-pub shape_of-sheet-in-Stop : goal.shape_of-sheet-in-Stop
-shape_of-sheet-in-Stop c = c.take_line.auto.sheet ∙ c.loop-from.invariant.1
-
-pub returns-in-Stop : goal.returns-in-Stop
-returns-in-Stop c =
-    let low : c.loop-from.from < length c.args.text.now = omega arith in
+pub returns-in_err-planned : goal.returns-in_err-planned
+returns-in_err-planned c =
+    let l = c.loop-rest in
     let a = c.args in
-    let b = c.before-in-loop-from in
-    line_refused a.chapter a.year a.n a.text.now _ c.loop-from.from c.loop-from.before c.loop-from.planned c.loop-from.sheet c.loop-from.invariant.0 low b.result b.ensures.0 c.take_line.ensures c.in-Stop.is
+    let low : 0 < length l.rest.now = let z = eqb-false (length l.rest.now) 0 (sym c.is_empty.ensures ∙ c.loop-rest-test.true) in omega arith in
+    let m : MatchResult c.take_line.result (λ y. c.map_err.result ≡ Ok y) (λ t. c.map_err.result ≡ Err (in_line t (l.before + 1))) = grind (arith, common_steps) in
+    let r : c.from_residual.result ≡ Err c.in_err-planned.field-0.0 = grind (arith, common_steps) in
+    text_refused a.chapter a.year a.n a.text.now _ l.rest.now l.before l.planned l.sheet l.invariant.0 low c.before-end.result c.before-end.ensures.0 c.take_line.result c.take_line.ensures m c.in_err-planned.was r
 
-pub overflow_add-before : goal.overflow_add-before
-overflow_add-before c =
-    let low : c.loop-from.from < length c.args.text.now = omega arith in
-    omega (arith, c.loop-from.invariant.0.few, low)
-
-pub overflow_add-from : goal.overflow_add-from
-overflow_add-from c =
-    let low : c.loop-from.from < length c.args.text.now = omega arith in
-    omega (arith, c.before-in-loop-from.ensures.1, low)
-
-pub loop-from-smaller : goal.loop-from-smaller
-loop-from-smaller c =
-    let low : c.loop-from.from < length c.args.text.now = omega arith in
-    omega (arith, low)
-
-pub loop-from-preserved : goal.loop-from-preserved
-loop-from-preserved c =
-    let low : c.loop-from.from < length c.args.text.now = omega arith in
-    let inside : c.loop-from.from + c.before-in-loop-from.result ≤ length c.args.text.now = omega (arith, c.before-in-loop-from.ensures.1, low) in
+pub loop-rest-preserved : goal.loop-rest-preserved
+loop-rest-preserved c =
+    let l = c.loop-rest in
     let a = c.args in
-    let b = c.before-in-loop-from in
-    (line_taken a.chapter a.year a.n a.text.now _ c.loop-from.from c.loop-from.before c.loop-from.planned c.loop-from.sheet c.loop-from.invariant.0 low b.result b.ensures.0 c.take_line.ensures c.in-Go.is inside, c.take_line.auto.sheet ∙ c.loop-from.invariant.1)
-
-pub at_end-requires : goal.at_end-requires
-at_end-requires c = omega (arith, c.loop-from.invariant.0.few, c.loop-from.invariant.0.near)
-
-pub shape_of-sheet : goal.shape_of-sheet
-shape_of-sheet c = c.loop-from.invariant.1
+    let low : 0 < length l.rest.now = let z = eqb-false (length l.rest.now) 0 (sym c.is_empty.ensures ∙ c.loop-rest-test.true) in omega arith in
+    let t : c.take_line.result ≡ Ok c.in_ok-planned.planned = grind (arith, common_steps) in
+    (line_taken a.chapter a.year a.n a.text.now _ l.rest.now l.before l.planned l.sheet l.invariant.0 low c.before-end.result c.before-end.ensures.0 c.take_line.ensures t c.min.result c.min.ensures, c.take_line.auto.sheet ∙ l.invariant.1)
 
 pub returns : goal.returns
 returns c =
-    let out : length c.args.text.now ≤ c.loop-from.from = omega arith in
     let a = c.args in
-    ap (λ (x : Text). took x c.loop-from.sheet) c.at_end.ensures ∙ no_more a.chapter a.year a.n a.text.now _ c.loop-from.from c.loop-from.before c.loop-from.planned c.loop-from.sheet c.loop-from.invariant.0 out
+    let l = c.loop-rest in
+    let z : length l.rest.now ≡ 0 = eqb-true (length l.rest.now) 0 (sym c.is_empty.ensures ∙ c.loop-rest-test.false) in
+    ap (λ (x : Result (Unit {0}) BadText). took x l.sheet) c.at_end.ensures ∙ no_more a.chapter a.year a.n a.text.now _ l.rest.now l.before l.planned l.sheet l.invariant.0 z

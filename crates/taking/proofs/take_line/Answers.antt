@@ -1,6 +1,8 @@
 -- `taking::take_line` meets its contract: by what the line says. Assumes nothing.
 use mathlib.Core.Path.{refl, sym, ap, ◌∙◌}
-use Rattle.taking.specs.declared.Step.{Step}
+use mathlib.Core.Bool.{Bool}
+use Rattle.std.specs.Prelude.{Result}
+use Rattle.taking.specs.declared.Trouble.{Trouble}
 use Rattle.taking.specs.Taking.{stepped}
 use Rattle.taking.proofs.OneLine.{test-readable, first-line, later-line}
 use Rattle.taking.proofs.take_line.Goals as goal
@@ -23,7 +25,7 @@ returns-in-Version c =
 pub returns-in-Plan : goal.returns-in-Plan
 returns-in-Plan c =
     let a = c.args in
-    later-line a.chapter a.year a.n a.before a.planned a.sheet.now a.line.now (sym c.in-Plan.is ∙ c.read-said.ensures.0) c.if-before-eq0.false (ap (λ (x : Step). stepped x a.sheet.now) c.take_plan.ensures)
+    later-line a.chapter a.year a.n a.before a.planned a.sheet.now a.line.now (sym c.in-Plan.is ∙ c.read-said.ensures.0) c.if-before-eq0.false (ap (λ (x : Result Bool Trouble). stepped x a.sheet.now) c.take_plan.ensures)
 
 pub returns-in-Test : goal.returns-in-Test
 returns-in-Test c =

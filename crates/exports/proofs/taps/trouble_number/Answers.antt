@@ -11,12 +11,12 @@ use Rattle.exports.proofs.taps.trouble_number.Goals as goal
 
 pub overflow_sub-result : goal.overflow_sub-result
 overflow_sub-result c =
-    let small : c.number.result < 2 ^ 31 = search rules in
-    rw (minus_is c.number.result small) (minus-fits c.number.result small)
+    let small : c.from.result < 2 ^ 31 = search rules in
+    rw (minus_is c.from.result small) (minus-fits c.from.result small)
 
 pub returns : goal.returns
 unfolding trouble_code
 returns c =
-    let small : c.number.result < 2 ^ 31 = search rules in
-    let n = c.number.result in
-    ap (λ (z : ℤ). to_z w32 (of_z w32 z)) (minus_is n small) ∙ back (minus-fits n small) ∙ ap (λ (n : ℕ). neg_ℤ (pos n)) c.number.ensures
+    let small : c.from.result < 2 ^ 31 = search rules in
+    let n = c.from.result in
+    ap (λ (z : ℤ). to_z w32 (of_z w32 z)) (minus_is n small) ∙ back (minus-fits n small) ∙ ap (λ (n : ℕ). neg_ℤ (pos n)) c.from.ensures
