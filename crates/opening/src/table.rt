@@ -14,6 +14,7 @@ use items::View;
 use sizes::Sizes;
 
 // The table has a place for each id, and one for 0.
+// Its entries are bytes, 0 or 1: with `bool` finish needs 12 bytes of stack more than tests/stack/limits allows.
 const TABLE: usize = Sizes::MOST_IDS + 1;
 
 // Whether an id is marked.
