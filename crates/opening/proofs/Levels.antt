@@ -149,11 +149,7 @@ module _ (desk path : List ℕ) where
 
 -- ---- the loop over the levels: the first k were walked, and the table has what was met
 
-twice : (b : Bool) → not (not b) ≡ b
-twice true = refl
-twice false = refl
-
-abbrev pub WalksTo : List ℕ → List ℕ → ℕ → List Bool → ℕ → Type 0
+abbrev pub WalksTo : List ℕ → List ℕ → ℕ → List ℕ → ℕ → Type 0
 WalksTo desk w n seen k =
     (path : List ℕ) → Reached (view_of desk) path n → Unsealed (view_of desk) path n w → (all k (walk_at desk path) ≡ true) × Seen seen (met desk path k)
 
@@ -168,10 +164,10 @@ not-zero n =
     (λ h. ap not (eq-eqb n 0 (omega arith)) ∙ sym (le-ltb 0 n h))
 
 module _ (desk w : List ℕ) (n : ℕ) where
-  pub walks-none : (seen : List Bool) → Seen seen (stash_of desk) → WalksTo desk w n seen 0
+  pub walks-none : (seen : List ℕ) → Seen seen (stash_of desk) → WalksTo desk w n seen 0
   walks-none seen s path r u = (all_none (walk_at desk path), rw met-none s)
 
-  module _ (seen after : List Bool) (k : ℕ) (h : k < n) (to : WalksTo desk w n seen k) (path : List ℕ) (r : Reached (view_of desk) path n) (u : Unsealed (view_of desk) path n w) where
+  module _ (seen after : List ℕ) (k : ℕ) (h : k < n) (to : WalksTo desk w n seen k) (path : List ℕ) (r : Reached (view_of desk) path n) (u : Unsealed (view_of desk) path n w) where
     held : slots_held (view_of desk) w k ≡ slots_at desk path k
     held = ap (blocks_of (slots_in desk)) (u.slots k h)
 
@@ -190,15 +186,14 @@ module _ (desk w : List ℕ) (n : ℕ) where
         sym (walks-fit desk path n r once) ∙ all-fails (walk_at desk path) n k h (sym (walked false l)) in
         sym (rw e)
 
-  pub walks-end : (seen : List Bool) (k : ℕ) → k ≡ n → Distinct (stash_of desk) → 0 < id_asked desk → id_asked desk ≤ most_ids → WalksTo desk w n seen k → (path : List ℕ)
+  pub walks-end : (seen : List ℕ) (k : ℕ) → k ≡ n → Distinct (stash_of desk) → 0 < id_asked desk → id_asked desk ≤ most_ids → WalksTo desk w n seen k → (path : List ℕ)
       → Reached (view_of desk) path n → Unsealed (view_of desk) path n w
-      → (not (is_marked desk (id_asked desk)) || get_or seen (id_asked desk) false) ≡ slots_fit real desk path
+      → (not (is_marked desk (id_asked desk)) || not (eqb (get_or seen (id_asked desk) 0) 0)) ≡ slots_fit real desk path
   walks-end seen k e once low high to path r u =
       let id = id_asked desk in
       let g = to path r u in
       let f : all (suc (height_of desk)) (λ k. each_fits real desk path k (found real desk path k)) ≡ true =
       sym (walks-fit desk path n r once) ∙ subst (λ (n : ℕ). all n (walk_at desk path) ≡ true) e g.0 in
       let c : cnt (is_id id) (met desk path k) ≡ cnt (is_id id) (gathered real desk path) = ap (λ (n : ℕ). cnt (is_id id) (met desk path n)) e ∙ met_all desk path n r id in
-      let t : not (get_or seen id false) ≡ eqb (cnt (is_id id) (gathered real desk path)) 0 = g.1.at id low high ∙ ap (λ (n : ℕ). eqb n 0) c in
-      let u : get_or seen id false ≡ ltb 0 (cnt (is_id id) (gathered real desk path)) = sym (twice (get_or seen id false)) ∙ ap not t ∙ not-zero (cnt (is_id id) (gathered real desk path)) in
-      rw (f, u)
+      let t : eqb (get_or seen id 0) 0 ≡ eqb (cnt (is_id id) (gathered real desk path)) 0 = g.1.at id low high ∙ ap (λ (n : ℕ). eqb n 0) c in
+      rw (f, t, not-zero (cnt (is_id id) (gathered real desk path)))

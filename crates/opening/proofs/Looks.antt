@@ -1,7 +1,7 @@
 -- A look at one slot: what it answers, and what it leaves in the table. Assumes nothing.
 use Prim.Native.Nat.{ℕ, ◌≤◌, ◌<◌}
-use mathlib.Core.Bool.{Bool, true, false, not}
-use mathlib.Core.Path.{◌≡◌, sym, ap, ◌∙◌}
+use mathlib.Core.Bool.{Bool, true, false}
+use mathlib.Core.Path.{◌≡◌, sym, ◌∙◌}
 use mathlib.Core.List.{List, [], ◌∷◌, append-nil}
 use native.Mathlib.Omega.{arith}
 use lib.ListN.{get_or, set}
@@ -27,7 +27,7 @@ placed-known desk k b h =
     let e : Each ts = each ts h in
     leb-true b.id (ids_of desk) e.0
 
-module _ (desk : List ℕ) (k : ℕ) (b : Block) (before : List Bool) where
+module _ (desk : List ℕ) (k : ℕ) (b : Block) (before : List ℕ) where
   pub looked-empty : b.id ≡ 0 → Looked desk k b before before true
   unfolding those
   looked-empty h =
@@ -38,21 +38,21 @@ module _ (desk : List ℕ) (k : ℕ) (b : Block) (before : List Bool) where
     not-empty : eqb b.id 0 ≡ false
     not-empty = ne_eqb b.id 0 used
 
-    pub looked-misplaced : (after : List Bool) → is_placed desk k b ≡ false → Looked desk k b before after false
+    pub looked-misplaced : (after : List ℕ) → is_placed desk k b ≡ false → Looked desk k b before after false
     looked-misplaced after p =
         record { answer = λ met s. rw (not-empty, p); met = λ met s t. absurd (no_true (sym t)) }
 
     module _ (placed : is_placed desk k b ≡ true) (small : b.id ≤ most_ids) where
-      table : (met : List Block) → Seen before met → not (get_or before b.id false) ≡ passes desk k met b
+      table : (met : List Block) → Seen before met → eqb (get_or before b.id 0) 0 ≡ passes desk k met b
       table met s = let e = not-empty in let h : 0 < b.id = omega (arith, used) in s.at b.id h small ∙ sym (rw (e, placed))
 
-      pub looked-again : (after : List Bool) → get_or before b.id false ≡ true → Looked desk k b before after false
+      pub looked-again : (after : List ℕ) → (get_or before b.id 0 ≡ 0 → ⊥) → Looked desk k b before after false
       looked-again after h =
-          record { answer = λ met s. sym (ap not h) ∙ table met s; met = λ met s t. absurd (no_true (sym t)) }
+          record { answer = λ met s. sym (ne_eqb (get_or before b.id 0) 0 h) ∙ table met s; met = λ met s t. absurd (no_true (sym t)) }
 
-      pub looked-new : (id : ℕ) → id ≡ b.id → get_or before b.id false ≡ false → Looked desk k b before (set before id true) true
+      pub looked-new : (id : ℕ) → id ≡ b.id → get_or before b.id 0 ≡ 0 → Looked desk k b before (set before id 1) true
       looked-new id e h =
           record {
-            answer = λ met s. sym (ap not h) ∙ table met s;
+            answer = λ met s. sym (eq-eqb (get_or before b.id 0) 0 h) ∙ table met s;
             met = λ met s t. rw e (seen-used before met b small s);
           }

@@ -1,13 +1,15 @@
 -- The table of ids met: it goes by counts alone, and a block is met by one store. Assumes nothing.
 use Prim.Native.Nat.{ℕ, suc, ◌+◌, ◌*◌, ◌≤◌, ◌<◌}
-use mathlib.Core.Bool.{Bool, true, false, not}
+use mathlib.Core.Bool.{false}
 use mathlib.Core.Path.{◌≡◌, sym, ap, ◌∙◌}
 use mathlib.Core.List.{List, [], ◌∷◌, ◌++◌, append_assoc}
 use native.Mathlib.Omega.{arith}
-use lib.ListN.{length, get_or, set, length-set, replicate, length-replicate, get_or-replicate}
+use lib.ListN.{length, get_or, set, length-set, get_or-replicate}
 use lib.Seq.{get_or-set_same, get_or-set_other}
 use lib.Dec.{eqb}
 use borrow.Author.Tests.{ne_eqb, eqb-true, eqb-false}
+use Rattle.words.specs.Bytes.{zeros}
+use Rattle.words.proofs.Splice.{length-zeros}
 use Rattle.words.proofs.Tests.{by_cases}
 use Rattle.sizes.specs.Sizes.{most_ids, slot_len, record_len}
 use Rattle.bags.specs.Bags.{cnt, those}
@@ -24,35 +26,35 @@ pub used-counts : (id : ℕ) → 0 < id → (bs : List Block) → cnt (is_id id)
 used-counts id h bs =
     cnt-those (is_id id) is_used bs (λ b e. let f : b.id ≡ id = eqb-true b.id id e in let g : eqb b.id 0 ≡ false = ne_eqb b.id 0 (λ z. omega arith) in rw g)
 
-pub seen-ext : (seen : List Bool) (cs bs : List Block) → ((id : ℕ) → 0 < id → cnt (is_id id) cs ≡ cnt (is_id id) bs) → Seen seen cs → Seen seen bs
+pub seen-ext : (seen : List ℕ) (cs bs : List Block) → ((id : ℕ) → 0 < id → cnt (is_id id) cs ≡ cnt (is_id id) bs) → Seen seen cs → Seen seen bs
 seen-ext seen cs bs h s = record { size = s.size; at = λ id l m. s.at id l m ∙ ap (λ (n : ℕ). eqb n 0) (h id l) }
 
-pub seen_none : Seen (replicate (suc most_ids) false) []
-seen_none = record { size = length-replicate (suc most_ids) false; at = λ id l m. ap not (get_or-replicate (suc most_ids) id false false (omega arith)) }
+pub seen_none : Seen (zeros (suc most_ids)) []
+seen_none = record { size = length-zeros (suc most_ids); at = λ id l m. ap (λ (n : ℕ). eqb n 0) (get_or-replicate (suc most_ids) id 0 0 (omega arith)) }
 
-pub seen-mark : (seen : List Bool) (met : List Block) (b : Block) → b.id ≤ most_ids → Seen seen met → Seen (set seen b.id true) (met ++ (b ∷ []))
+pub seen-mark : (seen : List ℕ) (met : List Block) (b : Block) → b.id ≤ most_ids → Seen seen met → Seen (set seen b.id 1) (met ++ (b ∷ []))
 seen-mark seen met b h s =
     record {
-      size = length-set seen b.id true ∙ s.size;
+      size = length-set seen b.id 1 ∙ s.size;
       at = λ id l m.
           let n = cnt-append (is_id id) met (b ∷ []) in
           by_cases (eqb b.id id)
           (λ e.
           let f : b.id ≡ id = eqb-true b.id id e in
           let k : b.id < length seen = omega (arith, s.size) in
-          let v : get_or (set seen b.id true) id false ≡ true = rw (← f) (get_or-set_same seen b.id true false k) in
+          let v : get_or (set seen b.id 1) id 0 ≡ 1 = rw (← f) (get_or-set_same seen b.id 1 0 k) in
           let one : cnt (is_id id) (met ++ (b ∷ [])) ≡ cnt (is_id id) met + (1 + 0) = n ∙ rw e in
-          ap not v ∙ sym (ne_eqb (cnt (is_id id) (met ++ (b ∷ []))) 0 (λ z. omega (arith, one, z))))
+          ap (λ (x : ℕ). eqb x 0) v ∙ sym (ne_eqb (cnt (is_id id) (met ++ (b ∷ []))) 0 (λ z. omega (arith, one, z))))
           (λ e.
-          let v : get_or (set seen b.id true) id false ≡ get_or seen id false = get_or-set_other seen b.id id true false (λ (f : id ≡ b.id). eqb-false b.id id e (sym f)) in
+          let v : get_or (set seen b.id 1) id 0 ≡ get_or seen id 0 = get_or-set_other seen b.id id 1 0 (λ (f : id ≡ b.id). eqb-false b.id id e (sym f)) in
           let same : cnt (is_id id) met ≡ cnt (is_id id) (met ++ (b ∷ [])) = let g : cnt (is_id id) (met ++ (b ∷ [])) ≡ cnt (is_id id) met + (0 + 0) = n ∙ rw e in omega (arith, g) in
-          ap not v ∙ s.at id l m ∙ ap (λ (x : ℕ). eqb x 0) same);
+          ap (λ (x : ℕ). eqb x 0) v ∙ s.at id l m ∙ ap (λ (x : ℕ). eqb x 0) same);
     }
 
 -- a slot's block, which does not count where it is empty
-pub seen-used : (seen : List Bool) (met : List Block) (b : Block) → b.id ≤ most_ids → Seen seen met → Seen (set seen b.id true) (met ++ those is_used (b ∷ []))
+pub seen-used : (seen : List ℕ) (met : List Block) (b : Block) → b.id ≤ most_ids → Seen seen met → Seen (set seen b.id 1) (met ++ those is_used (b ∷ []))
 seen-used seen met b h s =
-    seen-ext (set seen b.id true) (met ++ (b ∷ [])) (met ++ those is_used (b ∷ []))
+    seen-ext (set seen b.id 1) (met ++ (b ∷ [])) (met ++ those is_used (b ∷ []))
     (λ id l. omega (arith, cnt-append (is_id id) met (b ∷ []), cnt-append (is_id id) met (those is_used (b ∷ [])), used-counts id l (b ∷ [])))
     (seen-mark seen met b h s)
 
@@ -68,8 +70,8 @@ module _ (xs slot rest : List ℕ) (cut : xs ≡ slot ++ rest) (long : length sl
       ap (λ (ys : List ℕ). number 2 ys (slot_len * i)) (slot-rest xs slot rest cut long) ∙ number-drop 2 xs slot_len (slot_len * i) ∙ ap (number 2 xs) e in
       omega (arith, g, f (i + 1) (omega arith))
 
-  pub seen-next : (whole met : List Block) (seen : List Bool) (id : ℕ) → id ≡ number 2 slot 0 → number 2 slot 0 ≤ most_ids → met ++ blocks_of n xs ≡ whole → Seen seen met
-      → (next : List Block) × (next ++ blocks_of m rest ≡ whole) × Seen (set seen id true) next
+  pub seen-next : (whole met : List Block) (seen : List ℕ) (id : ℕ) → id ≡ number 2 slot 0 → number 2 slot 0 ≤ most_ids → met ++ blocks_of n xs ≡ whole → Seen seen met
+      → (next : List Block) × (next ++ blocks_of m rest ≡ whole) × Seen (set seen id 1) next
   seen-next whole met seen id i h e s =
       let b = block_by record_len slot in (
         met ++ (b ∷ []),

@@ -23,19 +23,19 @@ those-cons b bs = by_cases (is_used b) (λ e. rw e) (λ e. rw e)
 
 module _ (desk : List ℕ) (k : ℕ) (all : List Block) where
   -- where the walk stands with `rest` before it: the blocks met here, from which the rest is walked
-  pub record Here (rest met : List Block) (seen : List Bool) : Type 0 where
+  pub record Here (rest met : List Block) (seen : List ℕ) : Type 0 where
     pub here : List Block
     pub walks : walk desk k met all ≡ walk desk k here rest
     pub table : Seen seen here
     pub joins : here ++ those is_used rest ≡ met ++ those is_used all
 
-  abbrev pub Run : List Block → List Bool → List Bool → Type 0
+  abbrev pub Run : List Block → List ℕ → List ℕ → Type 0
   Run rest before seen = (met : List Block) → Seen before met → Here rest met seen
 
-  pub run_none : (rest : List Block) (seen : List Bool) → all ≡ rest → Run rest seen seen
+  pub run_none : (rest : List Block) (seen : List ℕ) → all ≡ rest → Run rest seen seen
   run_none rest seen e met s = record { here = met; walks = ap (walk desk k met) e; table = s; joins = ap (λ (bs : List Block). met ++ those is_used bs) (sym e) }
 
-  module _ (b : Block) (rest : List Block) (before seen after : List Bool) (run : Run (b ∷ rest) before seen) where
+  module _ (b : Block) (rest : List Block) (before seen after : List ℕ) (run : Run (b ∷ rest) before seen) where
     pub run_step : Looked desk k b seen after true → Run rest before after
     unfolding walk
     run_step look met s =
@@ -59,7 +59,7 @@ module _ (desk : List ℕ) (k : ℕ) (all : List Block) where
           met = λ met s e. absurd (no_true (sym e));
         }
 
-  pub run_end : (rest : List Block) (before seen : List Bool) → rest ≡ [] → Run rest before seen → Walked desk k all before seen true
+  pub run_end : (rest : List Block) (before seen : List ℕ) → rest ≡ [] → Run rest before seen → Walked desk k all before seen true
   unfolding walk those
   run_end rest before seen e run =
       record {

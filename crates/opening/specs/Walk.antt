@@ -1,5 +1,5 @@
 -- The checks of the slots as a walk: slot after slot, with the blocks met so far, the stash first. Assumes nothing.
-use Rattle.std.specs.Prelude.{ℕ, suc, ◌≤◌, ◌<◌, ◌≡◌, Bool, true, false, not, Option, is_some, IfSome, ◌&&◌, ◌||◌, List, [], ◌∷◌, ◌++◌, length, get_or, eqb}
+use Rattle.std.specs.Prelude.{ℕ, suc, ◌≤◌, ◌<◌, ◌≡◌, Bool, true, not, Option, is_some, IfSome, ◌&&◌, ◌||◌, List, [], ◌∷◌, ◌++◌, length, get_or, eqb}
 use Rattle.sizes.specs.Sizes.{most_ids, InRange, leaves, most_path}
 use Rattle.bags.specs.Bags.{cnt, those}
 use Rattle.slots.specs.Slots.{Block, is_used}
@@ -28,10 +28,10 @@ pub record Unsealed (v : View) (path : List ℕ) (n : ℕ) (w : List ℕ) : Type
   pub size : length w ≡ most_path
   pub slots : (k : ℕ) → k < n → slots_of v.sizes (item v w k) ≡ slots_opened real v.sizes v.key (bucket v k) (item v path k)
 
--- the table of ids met: false at those that none of the blocks has
-pub record Seen (seen : List Bool) (met : List Block) : Type 0 where
+-- the table of ids met: 0 at those that none of the blocks has
+pub record Seen (seen : List ℕ) (met : List Block) : Type 0 where
   pub size : length seen ≡ suc most_ids
-  pub at : (id : ℕ) → 0 < id → id ≤ most_ids → not (get_or seen id false) ≡ eqb (cnt (is_id id) met) 0
+  pub at : (id : ℕ) → 0 < id → id ≤ most_ids → eqb (get_or seen id 0) 0 ≡ eqb (cnt (is_id id) met) 0
 
 -- a block at level k, after blocks that were met: empty, or placed and met for the first time
 abbrev pub passes : List ℕ → ℕ → List Block → Block → Bool
@@ -43,11 +43,11 @@ walk desk k met [] = true
 walk desk k met (b ∷ bs) = passes desk k met b && walk desk k (met ++ those is_used (b ∷ [])) bs
 
 -- what a look at a block, and a walk over several, leaves in the table, whatever was met before
-pub record Looked (desk : List ℕ) (k : ℕ) (b : Block) (before after : List Bool) (r : Bool) : Type 0 where
+pub record Looked (desk : List ℕ) (k : ℕ) (b : Block) (before after : List ℕ) (r : Bool) : Type 0 where
   pub answer : (met : List Block) → Seen before met → r ≡ passes desk k met b
   pub met : (met : List Block) → Seen before met → r ≡ true → Seen after (met ++ those is_used (b ∷ []))
 
-pub record Walked (desk : List ℕ) (k : ℕ) (bs : List Block) (before after : List Bool) (r : Bool) : Type 0 where
+pub record Walked (desk : List ℕ) (k : ℕ) (bs : List Block) (before after : List ℕ) (r : Bool) : Type 0 where
   pub answer : (met : List Block) → Seen before met → r ≡ walk desk k met bs
   pub met : (met : List Block) → Seen before met → r ≡ true → Seen after (met ++ those is_used bs)
 

@@ -14,6 +14,7 @@ use items::View;
 use sizes::Sizes;
 
 // The table has a place for each id, and one for 0.
+// Its entries are bytes, 0 or 1: with `bool` finish needs 12 bytes of stack more than tests/stack/limits allows.
 const TABLE: usize = Sizes::MOST_IDS + 1;
 
 // Whether an id is marked.
@@ -49,7 +50,7 @@ fn is_placed(desk: &[u8], v: View, k: usize, id: usize, leaf: usize) -> bool
 }
 
 // The slot of a block at level `k`, whose id is met then.
-fn slot_good(desk: &[u8], slot: &[u8], seen: &mut [bool], v: View, k: usize) -> bool
+fn slot_good(desk: &[u8], slot: &[u8], seen: &mut [u8], v: View, k: usize) -> bool
     requires open_desk { OpenDesk desk.now × ((v ≡ view_of desk.now) × (k ≤ v.sizes.height)) }
     requires slot_len { (length slot.now ≡ slot_len) × (length seen.old ≡ suc most_ids) }
     ensures { Looked desk.now k (block_by record_len slot.now) seen.old seen.new result }
@@ -61,15 +62,15 @@ fn slot_good(desk: &[u8], slot: &[u8], seen: &mut [bool], v: View, k: usize) -> 
     if !is_placed(desk, v, k, id, words::get16(slot, Sizes::LEAF_IN) as usize) {
         return false;
     }
-    if seen[id] {
+    if seen[id] != 0 {
         return false;
     }
-    seen[id] = true;
+    seen[id] = 1;
     true
 }
 
 // The slots of the item at level `k`.
-fn item_good(desk: &[u8], slots: &[u8], seen: &mut [bool], v: View, k: usize) -> bool
+fn item_good(desk: &[u8], slots: &[u8], seen: &mut [u8], v: View, k: usize) -> bool
     requires open_desk { OpenDesk desk.now × ((v ≡ view_of desk.now) × (k ≤ v.sizes.height)) }
     requires slots_len { (length slots.now ≡ slots_len v.sizes) × (length seen.old ≡ suc most_ids) }
     ensures { Walked desk.now k (blocks_of v.sizes.slots slots.now) seen.old seen.new result }
@@ -99,15 +100,15 @@ pub fn stash_slots(desk: &[u8]) -> &[u8]
 }
 
 // The ids of the first `n` slots are met.
-fn ids_seen(slots: &[u8], n: usize) -> [bool; TABLE]
+fn ids_seen(slots: &[u8], n: usize) -> [u8; TABLE]
     requires n_in_bounds { slot_len * n ≤ length slots.now }
     requires by_index { (i : ℕ) → i < n → number 2 slots.now (slot_len * i) ≤ most_ids }
     ensures { Seen result (blocks_of n slots.now) }
 {
-    let mut seen = [false; TABLE];
+    let mut seen = [0u8; TABLE];
     for slot in slots.chunks_exact(Sizes::SLOT).take(n) {
         let id = usize::from(words::get16(slot, 0));
-        seen[id] = true;
+        seen[id] = 1;
     }
     seen
 }
@@ -126,5 +127,5 @@ pub fn slots_good(desk: &[u8], w: &[u8], v: View, n: usize) -> bool
         }
     }
     let id = crate::id_asked(desk);
-    !is_marked(desk, id) | seen[id]
+    !is_marked(desk, id) | (seen[id] != 0)
 }

@@ -1,6 +1,6 @@
 -- `opening::table::slot_good` meets its contract: an empty slot passes; any other is placed, and is met for the first time. Assumes nothing.
 use Prim.Native.Nat.{ℕ, ◌≤◌}
-use mathlib.Core.Bool.{true, false}
+use mathlib.Core.Bool.{true}
 use mathlib.Core.Path.{◌≡◌, sym, ap, ◌∙◌}
 use native.Mathlib.Omega.{arith}
 use lib.ListN.{get_or}
@@ -37,8 +37,8 @@ bounds-seen-id c =
     let small : c.is_placed.result ≡ true → block.id ≤ most_ids = λ e. let n = placed-known c.args.desk.now c.args.k block (placed e) in let w = c.requires.open_desk.0.whole.small in omega arith in
     let s = small (c.if-not-is_placed.false) in let e = id-is in omega (arith, c.requires.slot_len.1)
 
-pub returns-then-seen-id : goal.returns-then-seen-id
-returns-then-seen-id c =
+pub returns-then-seen-id-ne0 : goal.returns-then-seen-id-ne0
+returns-then-seen-id-ne0 c =
     let block : Block = block_by record_len c.args.slot.now in
     let id-is : c.get16-id.result ≡ block.id = c.get16-id.ensures in
     let used : block.id ≡ 0 → ⊥ = λ e. c.if-id-eq0.false (id-is ∙ e) in
@@ -47,7 +47,7 @@ returns-then-seen-id c =
     let small : c.is_placed.result ≡ true → block.id ≤ most_ids = λ e. let n = placed-known c.args.desk.now c.args.k block (placed e) in let w = c.requires.open_desk.0.whole.small in omega arith in
     let a = c.args in
     let t = c.if-not-is_placed.false in
-    looked-again a.desk.now a.k block a.seen.now used (placed t) (small t) a.seen.now (ap (λ (i : ℕ). get_or a.seen.now i false) (sym id-is) ∙ c.if-seen-id.true)
+    looked-again a.desk.now a.k block a.seen.now used (placed t) (small t) a.seen.now (λ z. c.if-seen-id-ne0.true (ap (λ (i : ℕ). get_or a.seen.now i 0) id-is ∙ z))
 
 pub bounds-seen-id-2 : goal.bounds-seen-id-2
 bounds-seen-id-2 c =
@@ -68,4 +68,4 @@ returns c =
     let small : c.is_placed.result ≡ true → block.id ≤ most_ids = λ e. let n = placed-known c.args.desk.now c.args.k block (placed e) in let w = c.requires.open_desk.0.whole.small in omega arith in
     let a = c.args in
     let t = c.if-not-is_placed.false in
-    looked-new a.desk.now a.k block a.seen.now used (placed t) (small t) c.get16-id.result id-is (ap (λ (i : ℕ). get_or a.seen.now i false) (sym id-is) ∙ c.if-seen-id.false)
+    looked-new a.desk.now a.k block a.seen.now used (placed t) (small t) c.get16-id.result id-is (ap (λ (i : ℕ). get_or a.seen.now i 0) (sym id-is) ∙ c.if-seen-id-ne0.false)

@@ -5,6 +5,7 @@ use mathlib.Core.Bool.{Bool, true, false, not, ◌||◌}
 use mathlib.Core.List.{List}
 use native.Mathlib.Omega.{arith}
 use lib.ListN.{length, get_or}
+use lib.Dec.{eqb}
 use Rattle.desk.specs.Readers.{is_marked, id_asked, stash_of}
 use Rattle.slots.specs.Slots.{blocks_of}
 use Rattle.items.specs.declared.View.{View}
@@ -86,8 +87,8 @@ returns c =
     let l = c.loop-k in
     let s = o.whole.small in
     let m : c.is_marked.result ≡ is_marked a.desk.now (id_asked a.desk.now) = c.is_marked.ensures ∙ ap (is_marked a.desk.now) c.id_asked-id.ensures in
-    let t : get_or l.seen c.id_asked-id.result false ≡ get_or l.seen (id_asked a.desk.now) false = ap (λ (i : ℕ). get_or l.seen i false) c.id_asked-id.ensures in
+    let t : get_or l.seen c.id_asked-id.result 0 ≡ get_or l.seen (id_asked a.desk.now) 0 = ap (λ (i : ℕ). get_or l.seen i 0) c.id_asked-id.ensures in
     λ path r u.
-    ap₂ (λ (x y : Bool). not x || y) m t
+    ap₂ (λ (x : Bool) (y : ℕ). not x || not (eqb y 0)) m t
     ∙ walks-end a.desk.now a.w.now a.n l.seen l.k (omega arith) o.once (omega (arith, o.low)) (omega (arith, o.high)) l.invariant.1 path
     (subst (λ (v : View). Reached v path a.n) e r) (subst (λ (v : View). Unsealed v path a.n a.w.now) e u)
