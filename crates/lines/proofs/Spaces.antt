@@ -51,10 +51,3 @@ trimmed_last (suc n) i xs h e r =
     (λ f.
     let d : i < n = let z = eqb-false i n f in omega arith in
     rw (eq-eqb (get_or xs n 0) space (r n d (omega arith))) (trimmed_last n i xs d e (λ k l m. r k l (omega arith))))
-
--- ---- a byte that is there does not depend on what stands for one that is not
-
-pub get_d-inside : (xs : List ℕ) (i a b : ℕ) → i < length xs → get_or xs i a ≡ get_or xs i b
-get_d-inside [] i a b h = absurd (omega arith)
-get_d-inside (x ∷ xs) zero a b h = refl
-get_d-inside (x ∷ xs) (suc i) a b h = get_d-inside xs i a b (omega arith)

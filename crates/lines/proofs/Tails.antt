@@ -38,15 +38,6 @@ pub first-as : (xs : List ℕ) (b : ℕ) → 1 ≤ b → starts_with eqb xs (b �
 first-as [] b h = sym (ne_eqb 0 b (λ e. omega arith))
 first-as (x ∷ xs) b h = and-true (eqb b x) ∙ nat_eq_equiv.symm b x
 
--- ---- the word of a directive, after the # and its spaces
-
-pub word_at : (xs : List ℕ) (n : ℕ) (d : Option Directive) → 1 ≤ length xs → (n ≡ leading (tail xs 1)) × (n ≤ length (tail xs 1)) → d ≡ directive_word (tail xs (1 + n))
-    → d ≡ directive_word (after_spaces (drop 1 xs))
-word_at xs n d h s w =
-    let p : n ≡ leading (drop 1 xs) = s.0 ∙ ap leading (tail-is xs 1 h) in
-    w ∙ ap directive_word (tail-is xs (1 + n) (omega (arith, s.1, tail-length xs 1 h)) ∙ sym (drop-drop n 1 xs))
-    ∙ ap (λ (k : ℕ). directive_word (drop k (drop 1 xs))) p
-
 -- ---- a description
 
 -- the place behind the space, as the smaller of two

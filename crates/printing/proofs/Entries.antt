@@ -88,11 +88,3 @@ module _ (chapter n from : ℕ) (sheet first : List ℕ) where
         more =
             let s : i + 1 ≡ suc i = omega arith in
             ap (λ (k : ℕ). entries_text chapter k 0 sheet) s ∙ entries-more chapter i 0 i sheet (omega arith)
-
-    pub all-written : n ≤ i → Wrote first from (entries_text chapter n 0 sheet) out at
-    all-written l =
-        let e : i ≡ n = omega (arith, here.to_end) in
-        let w = here.wrote in rw e at w
-
-    pub last-place : at ≤ from + n * line_room
-    last-place = omega (arith, here.place, here.to_end)

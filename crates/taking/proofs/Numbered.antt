@@ -29,14 +29,6 @@ within n k h =
     record { from_one = leb-true _ _ (and_left _ _ b); to_last = leb-true _ _ (and_right (leb 1 k) _ b) }
 
 module _ (n : ℕ) (sheet : List ℕ) (k : ℕ) where
-  -- none of 1 to n
-  pub outside : not (leb 1 k && leb k n) ≡ true → true ≡ is_bad_number n sheet k
-  outside h = rw h
-
-  -- one of them: by the entry in its place
-  pub by_place : not (leb 1 k && leb k n) ≡ false → {r : Bool} (m : ℕ) → m ≡ record_len → r ≡ is_record (part sheet (entry_start (k - 1)) m) → r ≡ is_bad_number n sheet k
-  by_place h m e g = g ∙ rw (h, e)
-
   pub good-within : is_bad_number n sheet k ≡ false → Within n k
   good-within h = within n k (left (not (leb 1 k && leb k n)) _ h)
     where
