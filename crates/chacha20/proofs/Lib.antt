@@ -1,4 +1,3 @@
-pub mod Made
 pub mod Rotated
 pub mod Front
 pub mod Zipped

@@ -5,7 +5,7 @@ ghost use Rattle.digest_sha2.specs.Sha2.{all_bytes, padding};
 ghost use Rattle.digest_sha2.specs.Sha256.{v256};
 
 use crate::{BLOCK, WORD};
-use words::{copy, put_big};
+use words::{copy, put_big32, put_big64};
 
 // Bytes of the length field, and the bit 1 that comes first, in its byte.
 const LENGTH: usize = 8;
@@ -38,7 +38,7 @@ pub fn last(p: &mut [u8; 128], left: &[u8], total: u64)
     p[left.len()] = ONE;
     let n = last_blocks(total);
     // a byte has eight bits, and bits past the 64th are left out
-    put_big(p, BLOCK * n - LENGTH, LENGTH, total << 3);
+    put_big64(p, BLOCK * n - LENGTH, total << 3);
 }
 
 pub fn bytes_of(s: [u32; 8]) -> [u8; 32]
@@ -46,7 +46,7 @@ pub fn bytes_of(s: [u32; 8]) -> [u8; 32]
 {
     let mut d = [0u8; 32];
     for (i, x) in s.iter().enumerate() {
-        put_big(&mut d, WORD * i, WORD, u64::from(*x));
+        put_big32(&mut d, WORD * i, *x);
     }
     d
 }

@@ -1,3 +1,4 @@
 pub mod Splice
 pub mod Numbers
 pub mod Tests
+pub mod Made

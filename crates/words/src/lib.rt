@@ -83,13 +83,19 @@ pub fn get_big32(s: &[u8], at: usize) -> u32
     u32::from_be_bytes(array_at(s, at))
 }
 
-// `x` in `n` bytes, the highest first, from `at` on.
-pub fn put_big(s: &mut [u8], at: usize, n: usize, x: u64)
-    requires { at + n ≤ length s.old }
-    ensures { s.new ≡ splice s.old at (big_bytes_of n x) }
+// `x` in four bytes, the highest first, from `at` on.
+pub fn put_big32(s: &mut [u8], at: usize, x: u32)
+    requires { at + 4 ≤ length s.old }
+    ensures { s.new ≡ splice s.old at (big_bytes_of 4 x) }
 {
-    put_number(s, at, n, x);
-    s[at..at + n].reverse();
+    copy(s, at, &x.to_be_bytes());
+}
+
+pub fn put_big64(s: &mut [u8], at: usize, x: u64)
+    requires { at + 8 ≤ length s.old }
+    ensures { s.new ≡ splice s.old at (big_bytes_of 8 x) }
+{
+    copy(s, at, &x.to_be_bytes());
 }
 
 // All of `src` into `dst` from `at` on.

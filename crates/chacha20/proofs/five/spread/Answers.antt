@@ -1,7 +1,7 @@
 -- `chacha20::five::spread` meets its contract: the words are those of the table. Assumes nothing.
 use Rattle.std.proofs.Common.{ℕ, ◌/◌, get_or, ◌∙◌, rules}
 use Rattle.chacha20.specs.Lanes.{spread}
-use Rattle.chacha20.proofs.Made.{made}
+use Rattle.words.proofs.Made.{made}
 use Rattle.chacha20.proofs.Table.{table-get_d, table-ext}
 use Rattle.chacha20.proofs.five.spread.Goals as goal
 

@@ -11,7 +11,7 @@ loop-i-init c = (refl, refl)
 pub loop-i-preserved : goal.loop-i-preserved
 loop-i-preserved c =
     let l = c.loop-i in
-    (c.put_big.auto.s ∙ l.invariant.0, cc (all_more 4 c.args.s l.d l.i (omega arith) (omega arith) l.invariant.1))
+    (c.put_big32.auto.s ∙ l.invariant.0, cc (all_more 4 c.args.s l.d l.i (omega arith) (omega arith) l.invariant.1))
 
 pub returns : goal.returns
 returns c =

@@ -9,4 +9,4 @@ overflow_sub-n c = omega (arith, length-padding c.args.total)
 pub returns : goal.returns
 returns c =
     let a = c.args in
-    let b = c.last_blocks-n in record { p_len = search rules; p_after = last-is a.left.now a.total b.result c.requires.left_len b.ensures.result_value c.put_big.new.s (rw (c.copy.ensures, c.requires.p_value) at c.put_big.ensures) }
+    let b = c.last_blocks-n in record { p_len = search rules; p_after = last-is a.left.now a.total b.result c.requires.left_len b.ensures.result_value c.put_big64.new.s (rw (c.copy.ensures, c.requires.p_value) at c.put_big64.ensures) }

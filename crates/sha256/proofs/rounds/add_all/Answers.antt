@@ -2,7 +2,7 @@
 use Rattle.std.proofs.Common.{ℕ, ◌+◌, ◌%◌, ◌^◌, get_or, rules}
 use Rattle.digest_sha2.specs.Sha2.{plus}
 use Rattle.digest_sha2.proofs.Rounds.{add-all-is}
-use Rattle.sha256.proofs.Made.{made}
+use Rattle.words.proofs.Made.{made}
 use Rattle.sha256.proofs.rounds.add_all.Goals as goal
 
 pub returns : goal.returns

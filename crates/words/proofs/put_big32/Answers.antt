@@ -1,0 +1,8 @@
+-- `words::put_big32` meets its contract: the library's bytes are the definition's. Assumes nothing.
+use mathlib.Core.Path.{ap, ◌∙◌}
+use Rattle.words.specs.Bytes.{splice}
+use Rattle.words.proofs.Numbers.{high_first-is}
+use Rattle.words.proofs.put_big32.Goals as goal
+
+pub returns : goal.returns
+returns c = c.copy.ensures ∙ ap (splice c.args.s.now c.args.at) (c.to_be_bytes.ensures ∙ high_first-is 4 c.args.x)
