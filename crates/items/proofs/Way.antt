@@ -32,17 +32,17 @@ module _ (v : View) (path : List ℕ) where
   all_above j (suc d) h = all_above j d (reachable-parent (d + j) (rw suc-add at h))
 
   -- the first n: none, those down to an item whose flag leads no further, or all
-  pub reached-none : v.written ≡ false → Reached v path 0
+  pub reached-none : (v.written ≡ 1 → ⊥) → Reached v path 0
   unfolding reachable
   reached-none h =
       record {
         most = omega arith;
-        exactly = λ k l. let e : k + 0 ≡ k = omega arith in (rw e at (none_below 0 k h)) ∙ sym (le-ltb k 0 (omega arith));
+        exactly = λ k l. let e : k + 0 ≡ k = omega arith in (rw e at (none_below 0 k (ne_eqb v.written 1 h))) ∙ sym (le-ltb k 0 (omega arith));
       }
 
-  pub reached-root : v.written ≡ true → reachable v path 0 ≡ true
+  pub reached-root : v.written ≡ 1 → reachable v path 0 ≡ true
   unfolding reachable
-  reached-root h = h
+  reached-root h = eq-eqb v.written 1 h
 
   pub reached-next : (k : ℕ) → reachable v path k ≡ true → flag_of v.sizes (item v path k) (side v k) ≡ 1 → reachable v path (k + 1) ≡ true
   unfolding reachable

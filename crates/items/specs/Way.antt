@@ -14,9 +14,9 @@ bucket v k = bucket_at v.sizes v.leaf k
 abbrev pub side : View → ℕ → ℕ
 side v k = side_at v.sizes v.leaf k
 
--- 1. Reachability. The root, if it is written; a child, if its parent is and the parent's flag for it is 1
+-- 1. Reachability. The root, if root written is 1; a child, if its parent is and the parent's flag for it is 1
 unfoldable pub reachable : View → List ℕ → ℕ → Bool
-reachable v path zero = v.written
+reachable v path zero = eqb v.written 1
 reachable v path (suc k) = reachable v path k && eqb (flag_of v.sizes (item v path k) (side v k)) 1
 
 -- the reachable items are the first n

@@ -17,7 +17,8 @@ use sizes::Sizes;
 pub struct View {
     pub sizes: Sizes,
     pub key: [u8; 32],
-    pub written: bool,
+    // As the desk's byte is, and no bool: `cipher_slots` and what else takes a view ask nothing of it.
+    pub written: u8,
     pub root: [u8; Sizes::DIGEST],
     pub leaf: usize,
 }
@@ -126,7 +127,7 @@ pub fn reach(path: &[u8], v: View) -> usize
     requires { Carries v.sizes path.now }
     ensures { Reached v path.now result }
 {
-    if !v.written {
+    if v.written != 1 {
         return 0;
     }
     let s = v.sizes;

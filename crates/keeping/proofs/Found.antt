@@ -24,7 +24,7 @@ unfolding reachable
 below_none v path k r = rw r refl
 
 module _ (m : Means) (v : View) (path : List ℕ) (server : Server) (low : v.leaf < leaves v.sizes)
-    (tied : Tied m v.sizes v.key server v.sizes.height 0 0 v.written v.root) (fair : Agrees v server path) where
+    (tied : Tied m v.sizes v.key server v.sizes.height 0 0 (eqb v.written 1) v.root) (fair : Agrees v server path) where
   abbrev s : Sizes
   s = v.sizes
 
@@ -84,13 +84,13 @@ module _ (m : Means) (v : View) (path : List ℕ) (server : Server) (low : v.lea
 
   -- what is found, and what is off the way, is all that stands on the server
   pub found-off : (t : Block → Bool)
-      → cnt t (found_to m v path (suc s.height)) + cnt t (off s.height 0 v.written)
-      ≡ cnt t (standing m s v.key server s.height 0 0 v.written)
+      → cnt t (found_to m v path (suc s.height)) + cnt t (off s.height 0 (eqb v.written 1))
+      ≡ cnt t (standing m s v.key server s.height 0 0 (eqb v.written 1))
   unfolding found_to reachable
   found-off t =
       let z : v.leaf / 2 ^ s.height ≡ 0 = div-eq_of_lt low in
       let f = found_from t s.height 0 (omega arith) in
-      let p : cnt t (standing m s v.key server s.height 0 0 v.written)
-      ≡ cnt t (way s.height 0 v.written) + cnt t (off s.height 0 v.written) =
-      ap (λ (j : ℕ). cnt t (standing m s v.key server s.height 0 j v.written)) (sym z) ∙ split m s v.key v.leaf server t s.height 0 v.written in
+      let p : cnt t (standing m s v.key server s.height 0 0 (eqb v.written 1))
+      ≡ cnt t (way s.height 0 (eqb v.written 1)) + cnt t (off s.height 0 (eqb v.written 1)) =
+      ap (λ (j : ℕ). cnt t (standing m s v.key server s.height 0 j (eqb v.written 1))) (sym z) ∙ split m s v.key v.leaf server t s.height 0 (eqb v.written 1) in
       omega (arith, p, f, one_more t s.height)

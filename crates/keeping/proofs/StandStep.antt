@@ -37,7 +37,7 @@ cnt-taken t (x ∷ xs) (suc h) =
     omega (arith, cnt-append t x (flat (take (suc h) xs)), cnt-append t x (flat (take h xs)), cnt-taken t xs h)
 
 module _ (m : Means) (o : Sound m) (v : View) (path : List ℕ) (server : Server) (low : v.leaf < leaves v.sizes)
-    (tied : Tied m v.sizes v.key server v.sizes.height 0 0 v.written v.root) (fair : Agrees v server path)
+    (tied : Tied m v.sizes v.key server v.sizes.height 0 0 (eqb v.written 1) v.root) (fair : Agrees v server path)
     (placed : List (List Block)) (laid : (k : ℕ) → k ≤ v.sizes.height → Lies v.sizes v.leaf k (get_or placed (v.sizes.height - k) []))
     (fresh : (k : ℕ) → k ≤ v.sizes.height → reachable v path k ≡ true → counter_of (item v path k) ≢ last_counter) where
   abbrev s : Sizes
@@ -94,13 +94,13 @@ module _ (m : Means) (o : Sound m) (v : View) (path : List ℕ) (server : Server
       ∙ omega (arith, blocks-on t (suc h) k e, on-after t h (suc k) (omega arith), cnt-taken t placed (suc h))
 
   pub standing-after : length placed ≡ suc L → (t : Block → Bool)
-      → cnt t (standing m s v.key now L 0 0 true) ≡ cnt t (flat placed) + cnt t (off_it m s v.key v.leaf server L 0 v.written)
+      → cnt t (standing m s v.key now L 0 0 true) ≡ cnt t (flat placed) + cnt t (off_it m s v.key v.leaf server L 0 (eqb v.written 1))
   unfolding reachable
   standing-after l t =
       let z : v.leaf / 2 ^ L ≡ 0 = div-eq_of_lt low in
       let p = split m s v.key v.leaf now t L 0 true in
       let q : cnt t (standing m s v.key now L 0 (v.leaf / 2 ^ L) true) ≡ cnt t (standing m s v.key now L 0 0 true) =
       ap (λ (j : ℕ). cnt t (standing m s v.key now L 0 j true)) z in
-      let f = ap (cnt t) (off-stays m s v.key v.leaf server now (reachable v path) rewritten L 0 (omega arith) v.written refl) in
+      let f = ap (cnt t) (off-stays m s v.key v.leaf server now (reachable v path) rewritten L 0 (omega arith) (eqb v.written 1) refl) in
       let w : take (suc L) placed ≡ placed = take_all (suc L) placed (omega arith) in
       omega (arith, p, q, f, on-after t L 0 (omega arith), ap (λ (x : List (List Block)). cnt t (flat x)) w)

@@ -80,7 +80,7 @@ Meets m v path server = (k : ℕ) → k ≤ v.sizes.height → reachable v path 
     → masked v.sizes k (item v path k) ≡ masked v.sizes k (or_nil (server k (place_in v.sizes v.leaf k)))
 
 module _ (m : Means) (v : View) (path : List ℕ) (server : Server) (low : v.leaf < leaves v.sizes)
-    (tied : Tied m v.sizes v.key server v.sizes.height 0 0 v.written v.root) where
+    (tied : Tied m v.sizes v.key server v.sizes.height 0 0 (eqb v.written 1) v.root) where
   abbrev s : Sizes
   s = v.sizes
 
@@ -100,7 +100,7 @@ module _ (m : Means) (v : View) (path : List ℕ) (server : Server) (low : v.lea
         let o : s.height - 0 ≡ s.height = omega arith in
         let z : 0 ≡ v.leaf / 2 ^ (s.height - 0) = rw o (sym (div-eq_of_lt low)) in
         let q : s.height ≡ h = omega arith in
-        tied-top m s v.key server s.height h q 0 (v.leaf / 2 ^ (s.height - 0)) v.written v.root z tied
+        tied-top m s v.key server s.height h q 0 (v.leaf / 2 ^ (s.height - 0)) (eqb v.written 1) v.root z tied
     walk (suc k) h e =
         tied-when m s v.key server h (suc k) (at (suc k)) (reachable v path (suc k)) (digest_due v path (suc k)) (λ g.
         let d : s.height - k ≡ suc h = omega arith in

@@ -56,7 +56,7 @@ module _ (m : Means) (s : Sizes) (key : List ℕ) (leaf : ℕ) (server server' :
       )
 
 module _ (m : Means) (o : Sound m) (v : View) (path : List ℕ) (server : Server) (low : v.leaf < leaves v.sizes)
-    (tied : Tied m v.sizes v.key server v.sizes.height 0 0 v.written v.root) (fair : Agrees v server path)
+    (tied : Tied m v.sizes v.key server v.sizes.height 0 0 (eqb v.written 1) v.root) (fair : Agrees v server path)
     (placed : List (List Block)) (laid : (k : ℕ) → k ≤ v.sizes.height → Lies v.sizes v.leaf k (get_or placed (v.sizes.height - k) []))
     (fresh : (k : ℕ) → k ≤ v.sizes.height → reachable v path k ≡ true → counter_of (item v path k) ≢ last_counter) where
   abbrev s : Sizes

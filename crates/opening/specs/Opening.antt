@@ -5,7 +5,7 @@ use Rattle.words.specs.Tests.{all}
 use Rattle.bags.specs.Bags.{cnt, AllOf}
 use Rattle.slots.specs.Slots.{Block}
 use Rattle.desk.specs.Layout.{e_at, shape_of, ids_of}
-use Rattle.desk.specs.Readers.{sizes_of, height_of, key_of, root_of, is_written, id_asked, leaf_asked, position_of, is_marked, stash_of}
+use Rattle.desk.specs.Readers.{sizes_of, height_of, key_of, root_of, written_of, id_asked, leaf_asked, position_of, is_marked, stash_of}
 use Rattle.items.specs.declared.View.{View}
 use Rattle.items.specs.Items.{Means, counter_of, flag_of, item_digest, blocks_in}
 use Rattle.items.specs.Way.{item, bucket, reachable, digest_due}
@@ -15,7 +15,7 @@ pub use Rattle.placing.specs.Ids.{is_id}
 
 -- what these steps read from the desk
 abbrev pub view_of : List ℕ → View
-view_of desk = record { sizes = sizes_of desk; key = key_of desk; written = is_written desk; root = root_of desk; leaf = leaf_asked desk }
+view_of desk = record { sizes = sizes_of desk; key = key_of desk; written = written_of desk; root = root_of desk; leaf = leaf_asked desk }
 
 -- the slots of the stash
 abbrev pub stash_slots : List ℕ → List ℕ

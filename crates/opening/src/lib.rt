@@ -41,7 +41,7 @@ pub fn view(desk: &[u8]) -> View
     View {
         sizes: desk::sizes_of(desk),
         key,
-        written: desk[desk::WRITTEN] == 1,
+        written: desk[desk::WRITTEN],
         root,
         leaf: usize::from(desk::position(desk, id_asked(desk))),
     }

@@ -65,7 +65,7 @@ proper-formats b lent p =
 
 -- ---- a desk whose root was not written has no reachable item
 
-reach-root : (v : View) (path : List ℕ) (k : ℕ) → reachable v path k ≡ true → v.written ≡ true
+reach-root : (v : View) (path : List ℕ) (k : ℕ) → reachable v path k ≡ true → eqb v.written 1 ≡ true
 unfolding reachable
 reach-root v path zero h = h
 reach-root v path (suc k) h = reach-root v path k (and_left (reachable v path k) _ h)

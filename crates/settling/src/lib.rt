@@ -2,7 +2,6 @@
 #![tactic(auto)]
 
 ghost use Rattle.std.specs.Prelude.{◌≡◌, ◌≤◌, length};
-ghost use Rattle.std.specs.Int.{from_bool};
 ghost use Rattle.sizes.specs.Sizes.{digest_len};
 ghost use Rattle.desk.specs.Layout.{Whole, ids_of, room_of};
 ghost use Rattle.desk.specs.Changes.{with_place, with_root, with_stash, closed, settled};
@@ -13,13 +12,13 @@ ghost use Rattle.settling.specs.Settling.{Held};
 use desk::Status;
 use sizes::Sizes;
 
-// The id's position and mark.
-pub fn set_place(desk: &mut [u8], id: usize, leaf: u16, marked: bool)
+// The id's position and mark: the byte that goes to the desk, and no bool, since `settle` and the promises take any.
+pub fn set_place(desk: &mut [u8], id: usize, leaf: u16, mark: u8)
     requires { Whole desk.old × ((1 ≤ id) × (id ≤ ids_of desk.old)) }
-    ensures { desk.new ≡ with_place id leaf (from_bool marked) desk.old }
+    ensures { desk.new ≡ with_place id leaf mark desk.old }
 {
     let at = desk::shape_of(desk).d_at() + desk::PLACE * (id - 1);
-    desk::put_place(desk, at, leaf, u8::from(marked));
+    desk::put_place(desk, at, leaf, mark);
 }
 
 // The stash: `over` blocks, those of the bank at the height above the root.
@@ -60,7 +59,7 @@ pub fn settle(
     desk: &mut [u8],
     id: usize,
     leaf: u16,
-    marked: bool,
+    mark: u8,
     over: usize,
     h: u8,
     at: &[u8],
@@ -72,9 +71,9 @@ pub fn settle(
     requires over_bound { (over ≤ room_of desk.old) × (length root.now ≡ digest_len) }
     requires places_in_bounds { (length places.now ≤ length at.now) × Inside bank.now places.now }
     requires held { Held over (pick h at.now (blocks_at bank.now places.now)) }
-    ensures { desk.new ≡ settled id leaf (from_bool marked) (pick h at.now (blocks_at bank.now places.now)) root.now desk.old }
+    ensures { desk.new ≡ settled id leaf mark (pick h at.now (blocks_at bank.now places.now)) root.now desk.old }
 {
-    set_place(desk, id, leaf, marked);
+    set_place(desk, id, leaf, mark);
     set_stash(desk, over, h, at, places, bank);
     set_root(desk, root);
     close(desk);

@@ -95,7 +95,7 @@ fn accept(
     lay(w, s, at, places, bank);
     let root = writing::write_path(path, w, v, n);
     let h = (s.height + 1) as u8;
-    settling::settle(desk, id, leaf, marked, over, h, at, places, bank, &root);
+    settling::settle(desk, id, leaf, u8::from(marked), over, h, at, places, bank, &root);
 }
 
 // Steps 4 and 6 by a plan: path and desk are then the new ones.

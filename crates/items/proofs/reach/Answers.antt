@@ -1,17 +1,16 @@
 -- `items::reach` meets its contract: all items down to level k are reachable, until a flag leads no further. Assumes nothing.
 use mathlib.Core.Path.{sym, ap, ◌∙◌}
 use native.Mathlib.Omega.{arith}
-use borrow.Author.Tests.{not-true, not-false}
 use Rattle.items.specs.Items.{flag_of}
 use Rattle.items.specs.Way.{item}
 use Rattle.items.proofs.Way.{reached-none, reached-root, reached-next, reached-here, reached-all}
 use Rattle.items.proofs.reach.Goals as goal
 
-pub returns-then-not-v : goal.returns-then-not-v
-returns-then-not-v c = reached-none c.args.v c.args.path.now (not-true _ c.if-not-v.true)
+pub returns-then-v-ne1 : goal.returns-then-v-ne1
+returns-then-v-ne1 c = reached-none c.args.v c.args.path.now c.if-v-ne1.true
 
 pub loop-k-init : goal.loop-k-init
-loop-k-init c = reached-root c.args.v c.args.path.now (not-false _ c.if-not-v.false)
+loop-k-init c = reached-root c.args.v c.args.path.now c.if-v-ne1.false
 
 pub returns-then-flag-ne1 : goal.returns-then-flag-ne1
 returns-then-flag-ne1 c =

@@ -22,4 +22,4 @@ pub returns : goal.returns
 unfolding with_place
 returns c =
     let start : c.d_at.result ≡ d_at (shape_of c.args.desk.now) = c.d_at.ensures ∙ ap d_at c.shape_of.ensures in
-    rw (c.put_place.ensures, c.from.ensures, start)
+    rw (c.put_place.ensures, start)

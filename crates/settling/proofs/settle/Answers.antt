@@ -6,7 +6,6 @@ use Rattle.placing.specs.Walk.{pick}
 use Rattle.desk.specs.Layout.{Whole, room_of}
 use Rattle.desk.specs.Changes.{settled}
 use Rattle.settling.proofs.Whole.{place-whole, place-room, stash-whole, root-whole}
-use Rattle.std.specs.Int.{from_bool}
 use Rattle.settling.proofs.settle.Goals as goal
 
 pub set_place-requires : goal.set_place-requires
@@ -16,10 +15,10 @@ pub set_stash-requires : goal.set_stash-requires
 set_stash-requires c =
     let placed-whole : Whole c.set_place.new.desk = let a = c.args in
     let p = c.requires.whole in
-    rw c.set_place.ensures (place-whole a.desk.now p.0 a.id a.leaf (from_bool a.marked) p.1.0 p.1.1) in
+    rw c.set_place.ensures (place-whole a.desk.now p.0 a.id a.leaf a.mark p.1.0 p.1.1) in
     let placed-room : room_of c.set_place.new.desk ≡ room_of c.args.desk.now = let a = c.args in
     let p = c.requires.whole in
-    rw c.set_place.ensures (place-room a.desk.now p.0 a.id a.leaf (from_bool a.marked) p.1.0 p.1.1) in
+    rw c.set_place.ensures (place-room a.desk.now p.0 a.id a.leaf a.mark p.1.0 p.1.1) in
     let p = c.requires in
     let r = placed-room in record { whole = (placed-whole, omega (arith, p.over_bound.0)); places_in_bounds = p.places_in_bounds; places_len = p.held.count }
 
@@ -27,10 +26,10 @@ pub set_root-requires : goal.set_root-requires
 set_root-requires c =
     let placed-whole : Whole c.set_place.new.desk = let a = c.args in
     let p = c.requires.whole in
-    rw c.set_place.ensures (place-whole a.desk.now p.0 a.id a.leaf (from_bool a.marked) p.1.0 p.1.1) in
+    rw c.set_place.ensures (place-whole a.desk.now p.0 a.id a.leaf a.mark p.1.0 p.1.1) in
     let placed-room : room_of c.set_place.new.desk ≡ room_of c.args.desk.now = let a = c.args in
     let p = c.requires.whole in
-    rw c.set_place.ensures (place-room a.desk.now p.0 a.id a.leaf (from_bool a.marked) p.1.0 p.1.1) in
+    rw c.set_place.ensures (place-room a.desk.now p.0 a.id a.leaf a.mark p.1.0 p.1.1) in
     let stashed-whole : Whole c.set_stash.new.desk = let a = c.args in
     let p = c.requires in
     let k = p.held in
@@ -44,10 +43,10 @@ pub close-requires : goal.close-requires
 close-requires c =
     let placed-whole : Whole c.set_place.new.desk = let a = c.args in
     let p = c.requires.whole in
-    rw c.set_place.ensures (place-whole a.desk.now p.0 a.id a.leaf (from_bool a.marked) p.1.0 p.1.1) in
+    rw c.set_place.ensures (place-whole a.desk.now p.0 a.id a.leaf a.mark p.1.0 p.1.1) in
     let placed-room : room_of c.set_place.new.desk ≡ room_of c.args.desk.now = let a = c.args in
     let p = c.requires.whole in
-    rw c.set_place.ensures (place-room a.desk.now p.0 a.id a.leaf (from_bool a.marked) p.1.0 p.1.1) in
+    rw c.set_place.ensures (place-room a.desk.now p.0 a.id a.leaf a.mark p.1.0 p.1.1) in
     let stashed-whole : Whole c.set_stash.new.desk = let a = c.args in
     let p = c.requires in
     let k = p.held in

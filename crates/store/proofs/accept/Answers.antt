@@ -31,6 +31,7 @@ returns c =
       desk_is =
           λ placed p.
           c.settle.ensures
+          ∙ ap (λ (m : ℕ). settled a.id a.leaf m (pick (a.v.sizes.height + 1) a.at.now (blocks_at a.bank.now a.places.now)) c.write_path-root.result a.desk.now) c.from.ensures
           ∙ ap (λ (r : List ℕ). settled a.id a.leaf (from_bool a.marked) (pick (a.v.sizes.height + 1) a.at.now (blocks_at a.bank.now a.places.now)) r a.desk.now)
           (c.write_path-root.ensures.root_is placed (holds_at placed p));
     }
