@@ -64,7 +64,16 @@ fn head_bytes(height: u8, slots: u8, stash: u8, ids: u16) -> [u8; desk::A_LEN]
     ensures { result ≡ head_bytes height slots stash ids }
 {
     let [low, high] = ids.to_le_bytes();
-    [height, slots, stash, u8::from(Status::Ready), 0, 0, low, high]
+    [
+        height,
+        slots,
+        stash,
+        u8::from(Status::Ready),
+        0,
+        0,
+        low,
+        high,
+    ]
 }
 
 // Body (d) of a new desk, at `at`.

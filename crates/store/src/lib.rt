@@ -95,7 +95,18 @@ fn accept(
     lay(w, s, at, places, bank);
     let root = writing::write_path(path, w, v, n);
     let h = (s.height + 1) as u8;
-    settling::settle(desk, id, leaf, u8::from(marked), over, h, at, places, bank, &root);
+    settling::settle(
+        desk,
+        id,
+        leaf,
+        u8::from(marked),
+        over,
+        h,
+        at,
+        places,
+        bank,
+        &root,
+    );
 }
 
 // Steps 4 and 6 by a plan: path and desk are then the new ones.
@@ -161,11 +172,7 @@ fn place(
 }
 
 // Steps 1 to 6 of an open request.
-fn finish_open(
-    desk: &mut [u8],
-    path: &mut [u8],
-    record: &mut [u8],
-) -> Result<Finished, Refusal>
+fn finish_open(desk: &mut [u8], path: &mut [u8], record: &mut [u8]) -> Result<Finished, Refusal>
     requires open_desk { OpenDesk desk.old × (new_leaf desk.old < leaves (sizes_of desk.old)) }
     requires path_len { (length path.old ≡ path_len (sizes_of desk.old)) × (length «record».old ≡ record_len) }
     ensures { finish_result result desk.new path.new «record».new ≡ finish_by (first_of (path_rows real desk.old path.old)) real desk.old path.old «record».old }
@@ -183,11 +190,7 @@ fn finish_open(
     place(desk, path, record, &mut w, v, n)
 }
 
-pub fn finish(
-    desk: &mut [u8],
-    path: &mut [u8],
-    record: &mut [u8],
-) -> Result<Finished, Refusal>
+pub fn finish(desk: &mut [u8], path: &mut [u8], record: &mut [u8]) -> Result<Finished, Refusal>
     ensures { finish_result result desk.new path.new «record».new ≡ finish_of real desk.old path.old «record».old }
 {
     entry_checked(desk, path, record)?;

@@ -23,8 +23,7 @@ copy_slot-requires c =
     let left : List ℕ → List ℕ → List Block = λ hs ps. pick a.h hs (blocks_at a.bank.now ps) in
     let hit : left l.place-iterator.b.rest.now l.place-iterator.a.rest.now ≡ block_in a.bank.now c.in-Some.place.now ∷ left t.b.rest.now t.a.rest.now =
     ap₂ left e.1 e.0 ∙ pick-hit a.h c.in-Some.height.now c.in-Some.place.now t.b.rest.now a.bank.now t.a.rest.now c.if-height-h.true in
-    let inside = inside-next a.bank.now l.place-iterator.a.rest.now t.a.rest.now c.in-Some.place.now e.0 l.invariant.0 in
-    (
+    let inside = inside-next a.bank.now l.place-iterator.a.rest.now t.a.rest.now c.in-Some.place.now e.0 l.invariant.0 in (
       omega (arith, ap length hit, l.invariant.1, c.requires.places_in_bounds_2),
       omega (arith, length-drop (slot_len * c.from-from.result) a.bank.now, inside.0, c.from-from.ensures),
     )
