@@ -1,6 +1,5 @@
 -- The plain table: what was last written under each id, what a plain table answers, and the blocks that stand for it. Assumes nothing.
-use Rattle.sizes.specs.declared.Refusal.{Refusal}
-use Rattle.std.specs.Prelude.{ℕ, zero, suc, ◌+◌, Bool, true, false, cond, List, [], ◌∷◌, ◌++◌, eqb, Ok, Result}
+use Rattle.std.specs.Prelude.{ℕ, zero, suc, ◌+◌, Bool, true, false, cond, List, [], ◌∷◌, ◌++◌, eqb}
 use Rattle.std.proofs.Math.Option.{Option, none, some}
 use Rattle.slots.specs.Slots.{Block}
 use Rattle.desk.specs.declared.Kind.{Kind}

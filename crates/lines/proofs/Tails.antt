@@ -6,19 +6,16 @@ use mathlib.Core.List.{List, [], ◌∷◌}
 use native.Mathlib.Omega.{arith}
 use borrow.Author.Tests.{ne_eqb, lt-ltb, le-ltb}
 use lib.ListN.{length, take, drop, get_or}
-use lib.Seq.{drop-drop}
 use lib.Dec.{eqb}
 use lib.Pointwise.{pointwise}
 use Rattle.std.specs.List.{starts_with}
 use Rattle.std.proofs.lemmas.Cmp.{nat_eq_equiv}
 use Rattle.words.proofs.Tests.{below_or}
-use Rattle.std.specs.Prelude.{Option}
 use Rattle.words.specs.Bytes.{part}
 use Rattle.words.proofs.Splice.{length_part, part-tail}
 use Rattle.verdicts.specs.declared.Verdict.{Verdict}
-use Rattle.lines.specs.declared.Directive.{Directive}
 use Rattle.lines.specs.declared.Cut.{Cut}
-use Rattle.lines.specs.Line.{leading, after_spaces, trimmed, directive_word, cut_of, verdict_by, hyphen_len, front_len, past_space, description_at, description_len, test, test_from}
+use Rattle.lines.specs.Line.{leading, trimmed, cut_of, verdict_by, hyphen_len, front_len, past_space, description_at, description_len, test, test_from}
 
 abbrev tail : List ℕ → ℕ → List ℕ
 tail xs a = part xs a (length xs - a)

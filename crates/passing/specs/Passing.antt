@@ -8,7 +8,6 @@ use Rattle.desk.specs.declared.Kind.{Kind}
 use Rattle.desk.specs.declared.Kind.TheVariants.{Read, Write}
 use Rattle.desk.specs.Readers.{sizes_of}
 use Rattle.store.specs.declared.Finished.{Finished}
-use Rattle.store.specs.declared.Finished.TheVariants as finished
 use Rattle.requests.specs.Request.{Answered}
 use Rattle.requests.specs.Request.{RequestResult, request_of}
 use Rattle.sheets.specs.Sheet.{entry_start, entry_at, is_record}

@@ -23,7 +23,6 @@ use Rattle.opening.specs.Opening.{view_of, is_worn, last_counter, genuine, worn,
 use Rattle.opening.proofs.Genuine.{genuine-checks, checks-genuine}
 use Rattle.opening.proofs.Tests.{no_true}
 use Rattle.store.specs.declared.Finished.{Finished}
-use Rattle.store.specs.declared.Finished.TheVariants as finished
 use Rattle.store.specs.Steps.{answer_for, was_marked, new_stash}
 use Rattle.store.specs.Finish.{finish_of, finish_checked, finished_or}
 use Rattle.promises.specs.Stores.{ours, Accepted}

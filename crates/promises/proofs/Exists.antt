@@ -29,7 +29,6 @@ use Rattle.asks.proofs.Passed.{AskPassed}
 use Rattle.asks.proofs.Opened.{opened-changed}
 use Rattle.formats.specs.Format.{format_checked, formatted}
 use Rattle.formats.proofs.Formatted.{new-written, new-status}
-use Rattle.store.specs.declared.Finished.TheVariants as finished
 use Rattle.store.specs.Steps.{new_stash, was_marked}
 use Rattle.store.specs.Finish.{finish_checked}
 use Rattle.promises.specs.Stores.{ours, Start, format_for, Request, Accepted}

@@ -27,7 +27,6 @@ use Rattle.opening.specs.Opening.{view_of, is_id, Genuine}
 use Rattle.opening.proofs.Tests.{no_true}
 use Rattle.writing.specs.Writing.{new_digest, written}
 use Rattle.store.specs.declared.Finished.{Finished}
-use Rattle.store.specs.declared.Finished.TheVariants as finished
 use Rattle.store.specs.Steps.{placed, new_stash, new_path, new_desk, was_marked}
 use Rattle.store.specs.Finish.{finish_of, finish_checked}
 use Rattle.keeping.specs.Server.{Agrees, standing}

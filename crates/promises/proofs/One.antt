@@ -19,7 +19,6 @@ use Rattle.asks.specs.Ask.{ask_rows, ask_checked, asked_of, ask_of, asked_value,
 use Rattle.asks.proofs.Passed.{ask-spares}
 use Rattle.formats.specs.Format.{format_rows, format_checked, formatted, format_value}
 use Rattle.formats.proofs.Passed.{format-spares}
-use Rattle.store.specs.declared.Finished.TheVariants as finished
 use Rattle.store.specs.Steps.{answer_for, was_marked}
 use Rattle.store.specs.Finish.{finish_rows, finish_checked, finished_or, finish_of, finished_value}
 use Rattle.requests.specs.Request.{request_of}

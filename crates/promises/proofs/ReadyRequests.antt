@@ -26,7 +26,6 @@ use Rattle.items.specs.Real.{real}
 use Rattle.items.proofs.Sound.{real-sound}
 use Rattle.opening.specs.Opening.{view_of, genuine, worn}
 use Rattle.asks.specs.Ask.{record_fits, ask_of}
-use Rattle.store.specs.declared.Finished.TheVariants as finished
 use Rattle.store.specs.Steps.{new_stash, new_path, was_marked}
 use Rattle.store.specs.Finish.{FinishResult, finish_checked}
 use Rattle.requests.specs.Request.{returned}

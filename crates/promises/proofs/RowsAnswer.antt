@@ -1,6 +1,5 @@
 -- Rows over a server that returns what was last written, from a ready desk, with leaves drawn: once its own checks are passed a row is counted, or ends as a
 -- run of requests does. Assumes nothing.
-use Rattle.verdicts.specs.Cells.{counted}
 use Rattle.std.specs.Prelude.{Err, Ok, Result}
 use Prim.Native.Nat.{ℕ, suc, ◌+◌, ◌-◌, ◌<◌, ◌≤◌}
 use mathlib.Core.Path.{◌≡◌, refl, sym, ap, ◌∙◌}

@@ -22,7 +22,6 @@ use Rattle.taking.specs.declared.BadText.{BadText}
 use Rattle.taking.specs.Taking.{take_of}
 use Rattle.printing.specs.Printed.{room_of}
 use Rattle.printing.specs.Printing.{head_text, entry_text, entries_text, text_of}
-use Rattle.tap.specs.declared.NotRead.TheVariants as not_read
 use Rattle.passing.specs.Passing.{kind_of, finished_outcome, outcome_of, request_entry, passed, going_on, pass_from, SheetResult, pass_of}
 use Rattle.tap.specs.Tap.{ReadResult, taken_by, read_text, read_of, printed_by, write_by, write_of}
 use Rattle.promises.specs.Stores.{Start, format_for}

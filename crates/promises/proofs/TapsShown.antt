@@ -20,7 +20,6 @@ use Rattle.sheets.specs.Sheet.{entry_start, entry_at, empty_sheet}
 use Rattle.std.specs.Prelude.{Result, Ok, Err}
 use Rattle.taking.specs.declared.BadText.{BadText}
 use Rattle.taking.specs.Taking.{take_of}
-use Rattle.tap.specs.declared.NotRead.TheVariants as not_read
 use Rattle.passing.specs.Passing.{kind_of, outcome_of, request_entry, PassResult, passed, going_on, pass_from, SheetResult, pass_of}
 use Rattle.tap.specs.Tap.{taken_by, read_text, read_by, read_of, write_checked, printed_by, write_by, write_of}
 use Rattle.promises.specs.Deeds.{leaf_asked, pass_shows, sheet_shows, text_shows, tap_in_shows_by, tap_in_shows, tap_out_shows_by, tap_out_shows, go_on_taken, go_on_printed}

@@ -12,7 +12,6 @@ use Rattle.items.specs.Items.{Means}
 use Rattle.tree.specs.Tree.{tree_rows, fetch_of, put_of}
 use Rattle.asks.specs.Ask.{ask_rows, asked_value}
 use Rattle.formats.specs.Format.{format_rows, format_value}
-use Rattle.store.specs.declared.Finished.TheVariants as finished
 use Rattle.store.specs.Finish.{finish_rows, finished_value}
 use Rattle.requests.specs.Request.{request_of}
 use Rattle.verdicts.specs.declared.Verdict.{Verdict}

@@ -14,7 +14,6 @@ use Rattle.items.specs.Way.{reachable}
 use Rattle.opening.specs.Opening.{view_of, is_id, last_counter, Reach, Genuine}
 use Rattle.writing.specs.Writing.{new_flag, new_digest}
 use Rattle.asks.specs.Ask.{record_fits, record_bytes}
-use Rattle.store.specs.declared.Finished.TheVariants as finished
 use Rattle.store.specs.Steps.{placed, new_stash}
 use Rattle.keeping.specs.Server.{standing}
 use Rattle.keeping.specs.Table.{plain_answer, plain_buffer, place_of, ever_written}

@@ -7,7 +7,6 @@ use Rattle.desk.specs.Readers.{status_of}
 use Rattle.desk.specs.Status.{ready_status}
 use Rattle.desk.specs.Good.{good_desk}
 use Rattle.asks.specs.Ask.{record_fits}
-use Rattle.store.specs.declared.Finished.TheVariants as finished
 use Rattle.promises.specs.Stores.{Store, Start, format_for, Request, Accepted}
 use Rattle.promises.specs.Steps.{begin, asks, after, ask_for, finish_for, State, returned, Reached}
 use Rattle.promises.specs.DemandThree.{Around, Run, leaves_of}

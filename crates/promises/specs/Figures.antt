@@ -10,7 +10,6 @@ use Rattle.items.specs.Items.{Means}
 use Rattle.opening.specs.Opening.{Genuine}
 use Rattle.placing.specs.Figures.{PlacingFigures}
 use Rattle.draws.specs.Figures.{DrawFigures}
-use Rattle.store.specs.declared.Finished.TheVariants as finished
 use Rattle.store.specs.Steps.{to_place}
 use Rattle.promises.specs.Stores.{Store, Accepted}
 use Rattle.promises.specs.DemandTwo.{Ready, WornOut}

@@ -7,7 +7,6 @@ use Rattle.items.specs.Items.{Means}
 use Rattle.asks.specs.Ask.{AskResult, ask_of}
 use Rattle.formats.specs.Format.{FormatResult, format_of}
 use Rattle.store.specs.declared.Finished.{Finished}
-use Rattle.store.specs.declared.Finished.TheVariants as finished
 use Rattle.store.specs.Finish.{FinishResult, finish_of}
 
 -- a store is what it answers and leaves in the buffers when it is asked (desk, kind, id, draw, record) and when a path comes back (desk, path,

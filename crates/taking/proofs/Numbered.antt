@@ -14,7 +14,7 @@ use Rattle.sizes.specs.Sizes.{record_len}
 use Rattle.verdicts.specs.Verdict.{record_of, can_be_read, MakeResult, making, make_of}
 use Rattle.lines.specs.declared.Test.{Test}
 use Rattle.lines.specs.Line.{description_in}
-use Rattle.sheets.specs.Sheet.{entry_start, is_record}
+use Rattle.sheets.specs.Sheet.{entry_start}
 use Rattle.taking.specs.declared.Trouble.TheVariants.{BadPlan}
 use Rattle.std.specs.Prelude.{Ok, Err}
 use Rattle.taking.specs.Taking.{stepped, is_bad_number, take_test}

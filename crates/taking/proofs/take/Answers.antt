@@ -1,13 +1,11 @@
 -- `taking::take` meets its contract: at each turn, what is left to do comes to what the whole text is. Assumes nothing.
-use Prim.Native.Nat.{ℕ, ◌+◌, ◌<◌}
+use Prim.Native.Nat.{◌+◌, ◌<◌}
 use mathlib.Core.Path.{◌≡◌, sym, ap, ◌∙◌}
-use mathlib.Core.Bool.{Bool}
 use native.Mathlib.Omega.{arith}
 use borrow.Author.Tests.{eqb-true, eqb-false}
 use lib.ListN.{length}
 use Rattle.std.proofs.lemmas.Grind.{common_steps}
 use Rattle.std.specs.Prelude.{Result, Ok, Err, MatchResult}
-use Rattle.taking.specs.declared.Trouble.{Trouble}
 use Rattle.taking.specs.declared.BadText.{BadText}
 use Rattle.taking.specs.Taking.{took, in_line}
 use Rattle.taking.proofs.Turns.{line_taken, text_refused, no_more}
