@@ -1,4 +1,4 @@
--- What was written: one thing after another, and the digits of a number from the last one on. Assumes nothing.
+-- What was written: one thing after another, by a writer too, and the digits of a number from the last one on. Assumes nothing.
 use Prim.Native.Nat.{ℕ, zero, suc, ◌+◌, ◌*◌, ◌-◌, ◌/◌, ◌%◌, ◌^◌, ◌≤◌, ◌<◌}
 use mathlib.Core.Path.{◌≡◌, refl, sym, ap, ◌∙◌}
 use mathlib.Core.List.{List, [], ◌∷◌, ◌++◌, append_assoc}
@@ -10,8 +10,11 @@ use lib.ListN.{length, drop, set, length-append, length-set}
 use lib.Seq.{drop-set-lt, drop-cons, get_or-set_same}
 use Rattle.words.specs.Bytes.{part}
 use Rattle.words.proofs.Splice.{splice-next, part-tail}
+use Rattle.std.specs.Borrow.{MutBor}
 use Rattle.text.specs.Fronts.{zero_digit}
 use Rattle.listing.specs.Listing.{digits_up_to, decimal, most_decimal, Wrote}
+use Rattle.listing.specs.Writer.{Adds, AtStart}
+use Rattle.listing.specs.declared.writer.Writer.{Writer}
 
 -- ---- one thing after another
 
@@ -21,6 +24,15 @@ and_then {xs} {ys} {zs} {at} {n} {m} us vs p q h =
       is = q.is ∙ rw (p.is, p.next_is) (splice-next xs at us vs (length us) refl (omega (arith, p.next_is)));
       next_is = q.next_is ∙ rw p.next_is (omega (arith, length-append us vs));
     }
+
+infixl 10 ◌then◌
+pub ◌then◌ : {a b d : Writer} {us vs : List ℕ} → Adds a us b → Adds b vs d → Adds a (us ++ vs) d
+◌then◌ {a} {b} {d} {us} {vs} p q =
+    record { same = q.same ∙ p.same; room = q.room ∙ p.room; wrote = and_then us vs p.wrote q.wrote (omega (arith, b.fits, p.room)) }
+
+-- what a writer added from its start on is what was written
+pub all_of : {out : MutBor (List ℕ)} {w v : Writer} {bytes : List ℕ} → AtStart out w → Adds w bytes v → Wrote out.now 0 bytes v.out.now v.at
+all_of {out} {w} {v} {bytes} s p = let q = p.wrote in rw (s.is, s.first) at q
 
 -- ---- digits from the last one on: those of y are still to come, before those that stand from i + 1 on
 

@@ -11,8 +11,9 @@ use borrow.Author.Tests.{eqb-true, eqb-false}
 use Rattle.words.proofs.Tests.{by_cases}
 use Rattle.words.proofs.Splice.{splice-nil}
 use Rattle.sizes.specs.Sizes.{record_len}
-use Rattle.listing.specs.Listing.{Wrote}
-use Rattle.listing.proofs.Written.{and_then}
+use Rattle.listing.specs.Writer.{Adds}
+use Rattle.listing.specs.declared.writer.Writer.{Writer}
+use Rattle.listing.proofs.Written.{◌then◌}
 use Rattle.verdicts.specs.declared.Entry.{Entry}
 use Rattle.verdicts.specs.Verdict.{reading_of, name_in}
 use Rattle.verdicts.proofs.GoodRecord.{bad-length}
@@ -21,8 +22,8 @@ use Rattle.printing.specs.Printed.{verdict_text, is_printable, line_room}
 use Rattle.printing.specs.Printing.{entry_text, entries_text}
 
 -- nothing written
-pub wrote_none : (xs : List ℕ) (at : ℕ) → Wrote xs at [] xs at
-wrote_none xs at = record { is = sym (splice-nil xs at); next_is = omega arith }
+pub adds_none : (w : Writer) → Adds w [] w
+adds_none w = record { same = refl; room = refl; wrote = record { is = sym (splice-nil w.out.now w.at); next_is = omega arith } }
 
 -- ---- one entry
 
@@ -60,29 +61,21 @@ entries-more chapter (suc k) i j sheet h =
     ∙ sym (append_assoc (entry_text chapter (i + 1) (entry_at sheet i)) (entries_text chapter k (suc i) sheet) (entry_text chapter (j + 1) (entry_at sheet j)))
 
 -- the lines of the first i entries are written
-pub record SoFar (chapter n from : ℕ) (sheet first : List ℕ) (i : ℕ) (out : List ℕ) (at : ℕ) : Type 0 where
+pub record SoFar (chapter n : ℕ) (sheet : List ℕ) (first : Writer) (i : ℕ) (w : Writer) : Type 0 where
   pub to_end : i ≤ n
-  pub same_room : length out ≡ length first
-  pub place : at ≤ from + i * line_room
-  pub wrote : Wrote first from (entries_text chapter i 0 sheet) out at
+  pub place : w.at ≤ first.at + i * line_room
+  pub wrote : Adds first (entries_text chapter i 0 sheet) w
 
-module _ (chapter n from : ℕ) (sheet first : List ℕ) where
-  pub begun : SoFar chapter n from sheet first 0 first from
+module _ (chapter n : ℕ) (sheet : List ℕ) (first : Writer) where
+  pub begun : SoFar chapter n sheet first 0 first
   unfolding entries_text
-  begun = record { to_end = omega arith; same_room = refl; place = omega arith; wrote = wrote_none first from }
+  begun = record { to_end = omega arith; place = omega arith; wrote = adds_none first }
 
-  module _ (i : ℕ) (out : List ℕ) (at : ℕ) (here : SoFar chapter n from sheet first i out at) where
-    pub turn : {now entry : List ℕ} {next : ℕ} → i < n → from + n * line_room ≤ length first → length now ≡ length out → entry ≡ entry_at sheet i
-        → Wrote out at (entry_text chapter (i + 1) entry) now next → next ≤ at + line_room → SoFar chapter n from sheet first (i + 1) now next
-    turn {now} {entry} {next} l r s e w p =
-        record {
-          to_end = omega arith;
-          same_room = s ∙ here.same_room;
-          place = omega (arith, here.place, p);
-          wrote =
-              rw more
-              (and_then (entries_text chapter i 0 sheet) (entry_text chapter (i + 1) (entry_at sheet i)) here.wrote (rw e at w) (omega (arith, here.place, l, r)));
-        }
+  module _ (i : ℕ) (w : Writer) (here : SoFar chapter n sheet first i w) where
+    pub turn : {v : Writer} {entry : List ℕ} → i < n → entry ≡ entry_at sheet i
+        → Adds w (entry_text chapter (i + 1) entry) v → v.at ≤ w.at + line_room → SoFar chapter n sheet first (i + 1) v
+    turn {v} {entry} l e t p =
+        record { to_end = omega arith; place = omega (arith, here.place, p); wrote = rw more (here.wrote then (rw e at t)) }
       where
         more : entries_text chapter (i + 1) 0 sheet ≡ entries_text chapter i 0 sheet ++ entry_text chapter (i + 1) (entry_at sheet i)
         more =

@@ -1,6 +1,6 @@
 -- How long what is printed can be: a number below 10,000 has at most four digits. Assumes nothing.
 use Prim.Native.Nat.{ℕ, zero, suc, ◌+◌, ◌*◌, ◌/◌, ◌%◌, ◌^◌, ◌≤◌, ◌<◌}
-use mathlib.Core.List.{List, [], ◌∷◌}
+use mathlib.Core.List.{[], ◌∷◌}
 use native.Mathlib.Nat.{pow-suc}
 use native.Mathlib.Omega.{arith}
 use borrow.Author.Tests.{lt-ltb}
@@ -8,7 +8,9 @@ use lib.ListN.{length, length-append}
 use lib.Dec.{ltb}
 use Rattle.words.proofs.Tests.{by_cases}
 use Rattle.text.specs.Fronts.{zero_digit, most_digits}
-use Rattle.listing.specs.Listing.{digits_up_to, decimal, most_decimal, Wrote}
+use Rattle.listing.specs.Listing.{digits_up_to, decimal, most_decimal}
+use Rattle.listing.specs.Writer.{Adds}
+use Rattle.listing.specs.declared.writer.Writer.{Writer}
 
 -- a number below the power k + 1 of ten has at most k + 1 digits
 digits-few : (k n x : ℕ) → x < 10 ^ (suc k) → length (digits_up_to n x) ≤ suc k
@@ -24,5 +26,5 @@ pub decimal-short : (x : ℕ) → x < 10000 → length (decimal x) ≤ most_digi
 decimal-short x h = digits-few 3 most_decimal x h
 
 -- the place after a number
-pub after-decimal : {xs now : List ℕ} {at next : ℕ} (x : ℕ) → x < 10000 → Wrote xs at (decimal x) now next → next ≤ at + most_digits
-after-decimal x h w = omega (arith, w.next_is, decimal-short x h)
+pub after-decimal : {w v : Writer} (x : ℕ) → x < 10000 → Adds w (decimal x) v → v.at ≤ w.at + most_digits
+after-decimal x h a = omega (arith, a.wrote.next_is, decimal-short x h)

@@ -1,10 +1,11 @@
-// The lines that are printed, into a buffer from a place on; each function answers with the place after what it wrote. Assumes nothing.
+// The lines that are printed. Assumes nothing.
 ghost use Rattle.std.specs.Prelude.{◌≡◌, ◌++◌, ◌+◌, ◌*◌, ◌≤◌, ◌<◌, length};
-ghost use Rattle.listing.specs.Listing.{Wrote};
+ghost use Rattle.listing.specs.Writer.{Adds, HasRoom};
 ghost use Rattle.verdicts.specs.Verdict.{most_name};
 ghost use Rattle.lines.specs.Words.{not_ok_word, todo_text};
 ghost use Rattle.printing.specs.Printed.{version_text, plan_text, kind_text, directive_text, verdict_text, is_printable, head_room, line_room, room_of};
 
+use listing::writer::Writer;
 use verdicts::Verdict;
 
 // The most bytes of version and plan, and of a line for a verdict.
@@ -28,45 +29,45 @@ pub fn is_printable(name: &[u8]) -> bool
 }
 
 // Version and plan. A number is put where twenty digits have room, so that the room of a line must follow.
-pub fn put_head(out: &mut [u8], n: usize) -> usize
-    requires { (n < 10000) × (head_room + line_room ≤ length out.old) }
-    ensures { Wrote out.old 0 (version_text ++ plan_text n) out.new result × (result ≤ head_room) }
+pub fn put_head(w: &mut Writer, n: usize)
+    requires { (n < 10000) × HasRoom w.old (head_room + line_room) }
+    ensures { Adds w.old (version_text ++ plan_text n) w.new × (w.new.at ≤ w.old.at + head_room) }
 {
-    let mut at = listing::put(out, 0, b"TAP version 13\n1..");
-    at = listing::decimal(out, at, n as u64);
-    listing::put(out, at, b"\n")
+    w.put(b"TAP version 13\n1..");
+    w.decimal(n as u64);
+    w.put(b"\n");
 }
 
-fn put_kind(out: &mut [u8], at: usize, verdict: Verdict) -> usize
-    requires { at + length not_ok_word ≤ length out.old }
-    ensures { Wrote out.old at (kind_text verdict) out.new result × (result ≤ at + length not_ok_word) }
+fn put_kind(w: &mut Writer, verdict: Verdict)
+    requires { HasRoom w.old (length not_ok_word) }
+    ensures { Adds w.old (kind_text verdict) w.new × (w.new.at ≤ w.old.at + length not_ok_word) }
 {
     match verdict {
-        Verdict::Pass | Verdict::Skipped => listing::put(out, at, b"ok "),
-        Verdict::Fail | Verdict::Error => listing::put(out, at, b"not ok "),
+        Verdict::Pass | Verdict::Skipped => w.put(b"ok "),
+        Verdict::Fail | Verdict::Error => w.put(b"not ok "),
     }
 }
 
-fn put_directive(out: &mut [u8], at: usize, verdict: Verdict) -> usize
-    requires { at + length todo_text ≤ length out.old }
-    ensures { Wrote out.old at (directive_text verdict) out.new result × (result ≤ at + length todo_text) }
+fn put_directive(w: &mut Writer, verdict: Verdict)
+    requires { HasRoom w.old (length todo_text) }
+    ensures { Adds w.old (directive_text verdict) w.new × (w.new.at ≤ w.old.at + length todo_text) }
 {
     match verdict {
-        Verdict::Pass | Verdict::Fail => at,
-        Verdict::Skipped => listing::put(out, at, b" # SKIP"),
-        Verdict::Error => listing::put(out, at, b" # TODO"),
+        Verdict::Pass | Verdict::Fail => {}
+        Verdict::Skipped => w.put(b" # SKIP"),
+        Verdict::Error => w.put(b" # TODO"),
     }
 }
 
 // The line that says a verdict.
-pub fn put_verdict(out: &mut [u8], at: usize, number: usize, verdict: Verdict, name: &[u8]) -> usize
-    requires { (number < 10000) × (length name.now ≤ most_name) × (at + line_room ≤ length out.old) }
-    ensures { Wrote out.old at (verdict_text number verdict name.now) out.new result × (result ≤ at + line_room) }
+pub fn put_verdict(w: &mut Writer, number: usize, verdict: Verdict, name: &[u8])
+    requires { (number < 10000) × (length name.now ≤ most_name) × HasRoom w.old line_room }
+    ensures { Adds w.old (verdict_text number verdict name.now) w.new × (w.new.at ≤ w.old.at + line_room) }
 {
-    let mut next = put_kind(out, at, verdict);
-    next = listing::decimal(out, next, number as u64);
-    next = listing::put(out, next, b" - ");
-    next = listing::put(out, next, name);
-    next = put_directive(out, next, verdict);
-    listing::put(out, next, b"\n")
+    put_kind(w, verdict);
+    w.decimal(number as u64);
+    w.put(b" - ");
+    w.put(name);
+    put_directive(w, verdict);
+    w.put(b"\n");
 }

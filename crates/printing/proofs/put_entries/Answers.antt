@@ -7,7 +7,7 @@ use Rattle.printing.proofs.Entries.{begun, turn}
 use Rattle.printing.proofs.put_entries.Goals as goal
 
 pub loop-i-init : goal.loop-i-init
-loop-i-init c = let a = c.args in begun a.chapter a.n a.from a.sheet.now a.out.now
+loop-i-init c = let a = c.args in begun a.chapter a.n a.sheet.now a.w.now
 
 pub loop-i-preserved : goal.loop-i-preserved
 loop-i-preserved c =
@@ -15,4 +15,4 @@ loop-i-preserved c =
     let a = c.args in
     let l = c.loop-i in
     let k : l.i * 64 + 64 - l.i * 64 ≡ 64 = omega arith in
-    turn a.chapter a.n a.from a.sheet.now a.out.now l.i l.out l.at l.invariant low c.requires.2 c.put_entry-at.auto.out (ap (λ (m : ℕ). take m (drop (l.i * 64) a.sheet.now)) k) c.put_entry-at.ensures.0 c.put_entry-at.ensures.1
+    turn a.chapter a.n a.sheet.now a.w.now l.i l.w l.invariant low (ap (λ (m : ℕ). take m (drop (l.i * 64) a.sheet.now)) k) c.put_entry.ensures.0 c.put_entry.ensures.1

@@ -3,4 +3,4 @@ use Rattle.printing.proofs.Entries.{SoFar}
 use Rattle.printing.proofs.put_entries.Given as goal
 
 abbrev pub invariant-loop-i : goal.invariant-loop-i
-invariant-loop-i l = SoFar l.chapter l.n l.from l.sheet l.initial.out l.i l.out l.at
+invariant-loop-i l = SoFar l.chapter l.n l.sheet l.initial.w l.i l.w

@@ -1,4 +1,4 @@
--- `listing::decimal` meets its contract: those digits that are found stand at the end, and y holds the others. Assumes nothing.
+-- `listing::writer::Writer::decimal` meets its contract: those digits that are found stand at the end, and y holds the others. Assumes nothing.
 use Prim.Native.Nat.{◌+◌, ◌-◌}
 use mathlib.Core.Path.{◌≡◌, ◌∙◌}
 use native.Mathlib.Omega.{arith}
@@ -6,7 +6,7 @@ use lib.ListN.{length, set, length-set}
 use Rattle.words.proofs.Splice.{length_part}
 use Rattle.text.specs.Fronts.{zero_digit}
 use Rattle.listing.proofs.Written as laws
-use Rattle.listing.proofs.decimal.Goals as goal
+use Rattle.listing.proofs.writer.Writer.decimal.Goals as goal
 
 pub loop-y-preserved : goal.loop-y-preserved
 loop-y-preserved c = laws.digits_more _ _ _ _ c.loop-y.invariant c.loop-y-test.true
