@@ -90,13 +90,7 @@ fn open_request(desk: &mut [u8], kind: Kind, id: u16, leaf: u16, record: &[u8])
 }
 
 // The answer is the id's position: the leaf that is asked for.
-pub fn ask(
-    desk: &mut [u8],
-    kind: Kind,
-    id: u16,
-    leaf: u16,
-    record: &[u8],
-) -> Result<u16, Refusal>
+pub fn ask(desk: &mut [u8], kind: Kind, id: u16, leaf: u16, record: &[u8]) -> Result<u16, Refusal>
     ensures { ask_result result desk.new ≡ ask_of desk.old kind id leaf «record».now }
 {
     ask_checked(desk, kind, id, leaf, record)?;

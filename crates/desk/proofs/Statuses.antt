@@ -2,7 +2,7 @@
 use Rattle.std.specs.Prelude.{ℕ, ◌≡◌, ◌≤◌, leb, eqb, Result, Ok, Err, is_ok}
 use mathlib.Core.Path.{refl, sym}
 use native.Mathlib.Omega.{arith}
-use borrow.Author.Tests.{le-leb, lt-leb, leb-true}
+use borrow.Author.Tests.{le-leb, lt-leb}
 use Rattle.desk.specs.declared.NoStatus.{NoStatus}
 use Rattle.desk.specs.declared.Status.{Status}
 use Rattle.desk.specs.declared.Status.TheVariants as status

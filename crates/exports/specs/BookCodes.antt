@@ -1,6 +1,6 @@
 -- The numbers that the C interface of the verdict book answers with, and what it hands out beside them. Assumes nothing.
 use Rattle.sizes.specs.declared.Refusal.{Refusal}
-use Rattle.std.specs.Prelude.{ℕ, ◌≡◌, Bool, true, false, cond, List, [], ◌∷◌, ℤ, pos, None, Option, Some, Ok, Err, Result}
+use Rattle.std.specs.Prelude.{ℕ, ◌≡◌, Bool, false, cond, List, [], ◌∷◌, ℤ, pos, None, Option, Some, Ok, Err, Result}
 use Rattle.verdicts.specs.declared.Entry.{Entry}
 use Rattle.verdicts.specs.declared.counts.Counts.{Counts}
 use Rattle.verdicts.specs.declared.counts.Row.{Row}

@@ -161,11 +161,7 @@ fn place(
 }
 
 // Steps 1 to 6 of an open request.
-fn finish_open(
-    desk: &mut [u8],
-    path: &mut [u8],
-    record: &mut [u8],
-) -> Result<Finished, Refusal>
+fn finish_open(desk: &mut [u8], path: &mut [u8], record: &mut [u8]) -> Result<Finished, Refusal>
     requires open_desk { OpenDesk desk.old × (new_leaf desk.old < leaves (sizes_of desk.old)) }
     requires path_len { (length path.old ≡ path_len (sizes_of desk.old)) × (length «record».old ≡ record_len) }
     ensures { finish_result result desk.new path.new «record».new ≡ finish_by (first_of (path_rows real desk.old path.old)) real desk.old path.old «record».old }
@@ -183,11 +179,7 @@ fn finish_open(
     place(desk, path, record, &mut w, v, n)
 }
 
-pub fn finish(
-    desk: &mut [u8],
-    path: &mut [u8],
-    record: &mut [u8],
-) -> Result<Finished, Refusal>
+pub fn finish(desk: &mut [u8], path: &mut [u8], record: &mut [u8]) -> Result<Finished, Refusal>
     ensures { finish_result result desk.new path.new «record».new ≡ finish_of real desk.old path.old «record».old }
 {
     entry_checked(desk, path, record)?;

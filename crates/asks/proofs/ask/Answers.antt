@@ -1,6 +1,6 @@
 -- `asks::ask` meets its contract: a refusal is answered as it came and changes nothing; else the position is read before the request is written. Assumes nothing.
 use Rattle.std.proofs.lemmas.Result.{err_from_is_err_and}
-use mathlib.Core.Path.{sym, ◌∙◌}
+use mathlib.Core.Path.{sym}
 use native.Mathlib.Omega.{arith}
 use Rattle.desk.specs.Layout.{Whole, room_at}
 use Rattle.desk.proofs.Known.{good-small}

@@ -1,5 +1,4 @@
 -- `exports::finished` meets its contract: by the four cases. Assumes nothing.
-use Rattle.std.specs.Prelude.{Ok}
 use mathlib.Core.Path.{sym, ap, ◌∙◌}
 use native.Mathlib.Omega.{arith}
 use Rattle.exports.specs.Codes.{finished_code}

@@ -1,6 +1,6 @@
 -- `formats::format` meets its contract: a refusal is answered as it came and changes nothing; else the desk is written whole. Assumes nothing.
 use Rattle.std.proofs.lemmas.Result.{err_from_is_err_and}
-use mathlib.Core.Path.{sym, ◌∙◌}
+use mathlib.Core.Path.{sym}
 use native.Mathlib.Omega.{arith}
 use Rattle.formats.proofs.Passed.{format-passed, format-spares}
 use Rattle.formats.proofs.format.Goals as goal
