@@ -23,8 +23,8 @@ pub fn row_checked(
     if !desk::good(desk) {
         return Err(Refusal::BadDesk);
     }
-    let n = desk::shape_of(desk).n;
-    let range_good = (1 <= first) & (first < end) & (end as usize <= n + 1);
+    let h = desk::shape_of(desk);
+    let range_good = (1 <= first) & (first < end) & (end as usize <= h.n + 1);
     if !range_good {
         return Err(Refusal::BadId);
     }

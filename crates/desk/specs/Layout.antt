@@ -93,9 +93,13 @@ ids_of desk = number 2 desk ids_at
 abbrev pub room_of : List ℕ → ℕ
 room_of desk = get_or desk room_at 0
 
+-- the shape of a desk with n ids and room stash slots
+abbrev pub shape_by : ℕ → ℕ → Shape
+shape_by n room = record { b = b_len; r = record_len; n = n; s = room }
+
 -- the shape that a desk's own bytes name
 abbrev pub shape_of : List ℕ → Shape
-shape_of desk = record { b = b_len; r = record_len; n = ids_of desk; s = room_of desk }
+shape_of desk = shape_by (ids_of desk) (room_of desk)
 
 -- a desk with its own length, and lengths in range
 pub record Whole (desk : List ℕ) : Type 0 where

@@ -1,3 +1,4 @@
+pub mod Lengths
 pub mod Layout
 pub mod Status
 pub mod Numbers

@@ -3,7 +3,7 @@ ghost use Rattle.std.specs.Prelude.{◌≡◌, ◌+◌, ◌*◌, ◌≤◌, ◌<
 ghost use Rattle.words.specs.Tests.{all};
 ghost use Rattle.sizes.specs.Sizes.{request_head, d_len};
 ghost use Rattle.slots.specs.Slots.{slot_by};
-ghost use Rattle.desk.specs.Layout.{Small, slot_at, e_len, shape_len};
+ghost use Rattle.desk.specs.Layout.{slot_at, e_len, shape_len};
 ghost use Rattle.desk.specs.Together.{InSixteenBits};
 ghost use Rattle.desk.specs.Good.{open_good, request_good, slot_after, slot_good, stash_good, bodies_good};
 
@@ -42,7 +42,7 @@ fn request_good(c: &[u8], status: u8, most: usize, n: usize) -> bool
 
 // Whether slot `i` of the stash `e` is good, after one with id `last`.
 fn slot_good(d: &[u8], e: &[u8], h: Shape, i: usize, last: usize) -> bool
-    requires { (d_len h.n ≤ length d.now) × ((slot_at h i + slot_by h.r ≤ length e.now) × (Small h × (i ≤ 255))) }
+    requires { (d_len h.n ≤ length d.now) × ((slot_at h i + slot_by h.r ≤ length e.now) × (i ≤ 255)) }
     ensures { result ≡ slot_after last h d.now e.now i }
 {
     let at = h.slot_at(i);
@@ -60,7 +60,7 @@ fn slot_good(d: &[u8], e: &[u8], h: Shape, i: usize, last: usize) -> bool
 
 // Whether the first `count` slots of the stash are good.
 fn slots_good(d: &[u8], e: &[u8], h: Shape, count: usize) -> bool
-    requires { (d_len h.n ≤ length d.now) × ((slot_at h count ≤ length e.now) × (Small h × (count ≤ 255))) }
+    requires { (d_len h.n ≤ length d.now) × ((slot_at h count ≤ length e.now) × (count ≤ 255)) }
     ensures { result ≡ all count (slot_good h d.now e.now) }
 {
     let mut last = 0;
@@ -75,7 +75,7 @@ fn slots_good(d: &[u8], e: &[u8], h: Shape, count: usize) -> bool
 
 // Whether body (e) is good.
 fn stash_good(d: &[u8], e: &[u8], h: Shape) -> bool
-    requires { (d_len h.n ≤ length d.now) × ((length e.now ≡ e_len h) × Small h) }
+    requires { (d_len h.n ≤ length d.now) × (length e.now ≡ e_len h) }
     ensures { result ≡ stash_good h d.now e.now }
 {
     let count = usize::from(words::get16(e, 0));
@@ -88,7 +88,7 @@ fn stash_good(d: &[u8], e: &[u8], h: Shape) -> bool
 
 // Whether the bodies (c), (d) and (e) are good.
 pub fn bodies_good(desk: &[u8], most: usize, h: Shape, status: u8) -> bool
-    requires { (length desk.now ≡ shape_len h) × (Small h × InSixteenBits most) }
+    requires { (length desk.now ≡ shape_len h) × InSixteenBits most }
     ensures { result ≡ bodies_good most h status desk.now }
 {
     let c_at = h.c_at();

@@ -3,6 +3,7 @@
 #![tactic(auto)]
 
 use sizes::Sizes;
+use std::marker::Model;
 
 // When the bodies (c), (d) and (e) are good.
 mod bodies;
@@ -12,7 +13,7 @@ ghost use Rattle.std.specs.Prelude.{◌≡◌, true, leb, [], ◌∷◌, ◌++�
 ghost use Rattle.words.specs.Bytes.{part, splice, same};
 ghost use Rattle.words.specs.Numbers.{bytes_of};
 ghost use Rattle.sizes.specs.Sizes.{contents_len, place_len, ids_good};
-ghost use Rattle.desk.specs.Layout.{Small, Whole, b_at, c_at, d_at, e_at, slot_at, shape_len, pair, pair_len, contents, ids_of, shape_of};
+ghost use Rattle.desk.specs.Layout.{Whole, b_at, c_at, c_len, d_at, e_at, slot_at, e_len, shape_len, pair, pair_len, contents, ids_of, shape_by, shape_of};
 ghost use Rattle.desk.specs.Readers.{sizes_of, status_of, position_of};
 ghost use Rattle.desk.specs.Good.{good_desk, head_good};
 ghost use Rattle.desk.specs.Status.{first_stopped};
@@ -138,7 +139,8 @@ impl From<Kind> for u8 {
     }
 }
 
-// The lengths on which a desk's layout depends: of body (b), of a record, and the numbers of ids and of stash slots.
+// The lengths on which a desk's layout depends: of body (b), of a record, and the numbers of ids and of stash slots. Whichever bytes name them, they are so
+// small that every offset fits.
 #[derive(Clone, Copy, Debug, PartialEq, Eq)]
 pub struct Shape {
     pub b: usize,
@@ -147,23 +149,53 @@ pub struct Shape {
     pub s: usize,
 }
 
+impl Model for Shape {
+    ghost use Rattle.std.specs.Prelude.{◌≤◌, ◌<◌};
+    ghost use Rattle.sizes.specs.Sizes.{b_len, record_len};
+    ghost use Rattle.desk.specs.Lengths.{Lengths};
+
+    ghost Value = { Lengths };
+
+    ghost view = { λ h. record { b = h.b; r = h.r; n = h.n; s = h.s } };
+
+    ghost invariant = { λ h. (h.b ≤ b_len) × ((h.r ≤ record_len) × ((h.n < 65536) × (h.s ≤ 255))) };
+
+    ghost inverse = { λ h. record { b = h.b; r = h.r; n = h.n; s = h.s } };
+}
+
 impl Shape {
+    // Of a desk with so many ids and stash slots.
+    pub fn new(ids: u16, stash: u8) -> Shape
+        ensures { result ≡ shape_by ids stash }
+    {
+        Shape {
+            b: B_LEN,
+            r: Sizes::RECORD,
+            n: usize::from(ids),
+            s: usize::from(stash),
+        }
+    }
+
     pub fn c_at(self) -> usize
-        requires { Small self }
         ensures { result ≡ c_at self }
     {
         B_AT + self.b
     }
 
+    // The length of body (c).
+    pub fn c_len(self) -> usize
+        ensures { result ≡ c_len self }
+    {
+        REQUEST_HEAD + self.r
+    }
+
     pub fn d_at(self) -> usize
-        requires { Small self }
         ensures { result ≡ d_at self }
     {
-        self.c_at() + (REQUEST_HEAD + self.r)
+        self.c_at() + self.c_len()
     }
 
     pub fn e_at(self) -> usize
-        requires { Small self }
         ensures { result ≡ e_at self }
     {
         self.d_at() + PLACE * self.n
@@ -171,18 +203,25 @@ impl Shape {
 
     // Where slot `i` starts in body (e).
     pub fn slot_at(self, i: usize) -> usize
-        requires { Small self × (i ≤ 255) }
+        requires { i ≤ 255 }
         ensures { result ≡ slot_at self i }
     {
         COUNT + (Sizes::SLOT_HEAD + self.r) * i
     }
 
+    // The length of body (e).
+    fn e_len(self) -> usize
+        ensures { result ≡ e_len self }
+    {
+        let room = self.s;
+        self.slot_at(room)
+    }
+
     // The length of the whole desk.
     pub fn len(self) -> usize
-        requires { Small self }
         ensures { result ≡ shape_len self }
     {
-        self.e_at() + self.slot_at(self.s)
+        self.e_at() + self.e_len()
     }
 }
 
@@ -191,12 +230,7 @@ pub fn shape_of(desk: &[u8]) -> Shape
     requires { b_at ≤ length desk.now }
     ensures { result ≡ shape_of desk.now }
 {
-    Shape {
-        b: B_LEN,
-        r: Sizes::RECORD,
-        n: usize::from(words::get16(desk, IDS)),
-        s: usize::from(desk[ROOM]),
-    }
+    Shape::new(words::get16(desk, IDS), desk[ROOM])
 }
 
 // The sizes of the tree that a desk belongs to.
@@ -225,19 +259,19 @@ fn put_pair(dst: &mut [u8], at: usize, offset: usize, len: usize)
 
 // Writes the computed contents.
 pub fn put_contents(dst: &mut [u8], h: Shape)
-    requires { (contents_len ≤ length dst.old) × Small h }
+    requires { contents_len ≤ length dst.old }
     ensures { dst.new ≡ splice dst.old 0 (contents h) }
 {
     put_pair(dst, 0, A_AT, A_LEN);
     put_pair(dst, PAIR, B_AT, h.b);
-    put_pair(dst, 2 * PAIR, h.c_at(), REQUEST_HEAD + h.r);
+    put_pair(dst, 2 * PAIR, h.c_at(), h.c_len());
     put_pair(dst, 3 * PAIR, h.d_at(), PLACE * h.n);
-    put_pair(dst, 4 * PAIR, h.e_at(), h.slot_at(h.s));
+    put_pair(dst, 4 * PAIR, h.e_at(), h.e_len());
 }
 
 // Whether the contents are the computed ones.
 fn contents_good(desk: &[u8], h: Shape) -> bool
-    requires { (contents_len ≤ length desk.now) × Small h }
+    requires { contents_len ≤ length desk.now }
     ensures { result ≡ same (part desk.now 0 contents_len) (contents h) }
 {
     let mut due = [0u8; CONTENTS];

@@ -55,9 +55,7 @@ fn row_number(row: Result<Row, Refusal>) -> i32
     ensures { result ≡ row_code row }
 {
     match row {
-        Ok(row) => {
-            if row.complete { COMPLETE } else { INCOMPLETE }
-        }
+        Ok(row) => { if row.complete { COMPLETE } else { INCOMPLETE } }
         Err(q) => crate::refused(q),
     }
 }

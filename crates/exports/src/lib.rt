@@ -66,13 +66,7 @@ pub extern "C" fn bawnaroy_desk_length(ids: u16, stash: u8) -> usize
     if !desk::ids_good(n) {
         return 0;
     }
-    let h = Shape {
-        b: desk::B_LEN,
-        r: Sizes::RECORD,
-        n: n,
-        s: usize::from(stash),
-    };
-    h.len()
+    Shape::new(ids, stash).len()
 }
 
 #[unsafe(no_mangle)]

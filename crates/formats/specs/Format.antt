@@ -3,12 +3,12 @@ use Rattle.std.specs.Prelude.{ℕ, Bool, not, ◌&&◌, List, [], ◌∷◌, ◌
 use Rattle.words.specs.Bytes.{zeros}
 use Rattle.words.specs.Numbers.{bytes_of}
 use Rattle.words.specs.Tests.{all}
-use Rattle.sizes.specs.Sizes.{sized, sizes_good, ids_good, leaves, desk_len, key_len, b_len, record_len, digest_len}
+use Rattle.sizes.specs.Sizes.{sized, sizes_good, ids_good, leaves, desk_len, key_len, digest_len}
 use Rattle.sizes.specs.Refusals.{number_of, first_of}
 use Rattle.sizes.specs.declared.Refusal.{Refusal}
 use Rattle.sizes.specs.declared.Refusal.TheVariants.{BadLeaf, BadLength, BadSize}
 use Rattle.desk.specs.declared.Shape.{Shape}
-use Rattle.desk.specs.Layout.{contents, c_len, e_len}
+use Rattle.desk.specs.Layout.{shape_by, contents, c_len, e_len}
 use Rattle.desk.specs.Status.{ready_status, stopped_or}
 
 -- ---- the refusals, in order; L, Z, S and N are given as l, z, room and n
@@ -30,7 +30,7 @@ format_checked desk l z room n key starts = first_of (format_rows desk l z room 
 -- ---- the desk: status 0, root written 0, root digest zero, no request, marks 0, empty stash
 
 abbrev pub new_shape : ℕ → ℕ → Shape
-new_shape n room = record { b = b_len; r = record_len; n = n; s = room }
+new_shape n room = shape_by n room
 
 abbrev pub head_bytes : ℕ → ℕ → ℕ → ℕ → List ℕ
 head_bytes l z room n = l ∷ z ∷ room ∷ ready_status ∷ 0 ∷ 0 ∷ bytes_of 2 n

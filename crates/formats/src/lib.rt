@@ -4,23 +4,11 @@
 ghost use Rattle.std.specs.Prelude.{◌≡◌, ◌+◌, ◌≤◌, length};
 ghost use Rattle.words.specs.Bytes.{splice};
 ghost use Rattle.sizes.specs.Sizes.{d_len};
-ghost use Rattle.formats.specs.Format.{are_leaves, format_checked, new_shape, head_bytes, unmarked, formatted, format_of, format_result};
+ghost use Rattle.formats.specs.Format.{are_leaves, format_checked, head_bytes, unmarked, formatted, format_of, format_result};
 ghost use Rattle.formats.specs.Fits.{Fits};
 
 use desk::{Shape, Status};
 use sizes::{Refusal, Sizes};
-
-// The shape of a new desk.
-fn new_shape(stash: u8, ids: u16) -> Shape
-    ensures { result ≡ new_shape ids stash }
-{
-    Shape {
-        b: desk::B_LEN,
-        r: Sizes::RECORD,
-        n: usize::from(ids),
-        s: usize::from(stash),
-    }
-}
 
 // Whether every starting leaf is below `most`.
 fn are_leaves(leaves: &[u16], most: usize) -> bool
@@ -47,7 +35,7 @@ fn format_checked(
     if !in_range {
         return Err(Refusal::BadSize);
     }
-    let fit = (desk.len() == new_shape(stash, ids).len())
+    let fit = (desk.len() == Shape::new(ids, stash).len())
         & (leaves.len() == n)
         & (key.len() == desk::KEY);
     if !fit {
@@ -99,7 +87,7 @@ fn write_desk(
     requires { Fits desk.old stash ids key.now leaves.now }
     ensures { desk.new ≡ formatted height slots stash ids key.now leaves.now }
 {
-    let h = new_shape(stash, ids);
+    let h = Shape::new(ids, stash);
     let c_at = h.c_at();
     let d_at = h.d_at();
     let e_at = h.e_at();

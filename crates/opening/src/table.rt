@@ -40,7 +40,8 @@ fn is_placed(desk: &[u8], v: View, k: usize, id: usize, leaf: usize) -> bool
     requires { OpenDesk desk.now × ((v ≡ view_of desk.now) × ((k ≤ v.sizes.height) × (1 ≤ id))) }
     ensures { (bytes : List ℕ) → result ≡ is_placed desk.now k (record { id = id; leaf = leaf; bytes = bytes }) }
 {
-    if desk::shape_of(desk).n < id {
+    let h = desk::shape_of(desk);
+    if h.n < id {
         return false;
     }
     let s = v.sizes;

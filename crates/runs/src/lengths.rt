@@ -4,6 +4,7 @@ ghost use Rattle.sizes.specs.Sizes.{most_ids};
 ghost use Rattle.runs.specs.Shelf.{desk_len_of, tree_len_of, path_len_of, most_desk, most_tree, most_path};
 ghost use Rattle.runs.specs.Run.{Roomy};
 
+use desk::Shape;
 use setup::Store;
 use sizes::Sizes;
 
@@ -18,13 +19,7 @@ pub fn desk_len(store: Store) -> usize
     requires { store.ids ≤ most_ids }
     ensures { (result ≡ desk_len_of store) × (result ≤ most_desk) }
 {
-    desk::Shape {
-        b: desk::B_LEN,
-        r: Sizes::RECORD,
-        n: store.ids as usize,
-        s: usize::from(store.room),
-    }
-    .len()
+    Shape::new(store.ids, store.room).len()
 }
 
 pub fn tree_len(store: Store) -> usize

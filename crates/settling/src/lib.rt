@@ -50,7 +50,7 @@ pub fn close(desk: &mut [u8])
     ensures { desk.new ≡ closed desk.old }
 {
     let h = desk::shape_of(desk);
-    words::clear(desk, h.c_at(), desk::REQUEST_HEAD + h.r);
+    words::clear(desk, h.c_at(), h.c_len());
     desk[desk::STATUS] = u8::from(Status::Ready);
 }
 

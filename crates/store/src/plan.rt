@@ -44,11 +44,11 @@ pub fn plan(
 {
     let s = v.sizes;
     let r = request_of(desk);
-    let ids = desk::shape_of(desk).n;
+    let shape = desk::shape_of(desk);
     let count = opening::stash_count(desk);
     let slots = opening::stash_slots(desk);
     gathering::arrange(
-        bank, places, at, s, v.leaf, ids, w, n, slots, count, r, carried,
+        bank, places, at, s, v.leaf, shape.n, w, n, slots, count, r, carried,
     )
 }
 

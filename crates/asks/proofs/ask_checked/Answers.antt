@@ -43,7 +43,7 @@ pub returns-then-not-within : goal.returns-then-not-within
 unfolding ask_checked
 returns-then-not-within c =
     let good-at : good_desk c.args.desk.now ≡ true = sym c.good.ensures ∙ c.if-not-good.false in
-    let ids_at : c.shape_of-h.result.n ≡ ids_of c.args.desk.now = ap (λ (h : Shape). h.n) c.shape_of-h.ensures in
+    let ids_at : c.h.inside.n ≡ ids_of c.args.desk.now = ap (λ (h : Shape). h.n) (c.h.view_is ∙ c.shape_of-h.ensures) in
     rw (good-at, sym (c.is_stopped.ensures ∙ ap (leb first_stopped) c.status_of-status.ensures) ∙ c.if-is_stopped.false, sym (c.eq.ensures ∙ is-open _ ∙ ap (λ n. eqb n open_status) c.status_of-status.ensures) ∙ c.if-eq.false, ← ids_at, c.if-not-within.true)
 
 pub sizes_of-requires : goal.sizes_of-requires
@@ -60,7 +60,7 @@ pub returns-then-leaves-leaf : goal.returns-then-leaves-leaf
 unfolding ask_checked
 returns-then-leaves-leaf c =
     let good-at : good_desk c.args.desk.now ≡ true = sym c.good.ensures ∙ c.if-not-good.false in
-    let ids_at : c.shape_of-h.result.n ≡ ids_of c.args.desk.now = ap (λ (h : Shape). h.n) c.shape_of-h.ensures in
+    let ids_at : c.h.inside.n ≡ ids_of c.args.desk.now = ap (λ (h : Shape). h.n) (c.h.view_is ∙ c.shape_of-h.ensures) in
     let leaves_at : c.leaves.result ≡ leaves (sizes_of c.args.desk.now) = c.leaves.ensures.0 ∙ ap leaves c.sizes_of.ensures in
     rw (good-at, sym (c.is_stopped.ensures ∙ ap (leb first_stopped) c.status_of-status.ensures) ∙ c.if-is_stopped.false, sym (c.eq.ensures ∙ is-open _ ∙ ap (λ n. eqb n open_status) c.status_of-status.ensures) ∙ c.if-eq.false, ← ids_at, c.if-not-within.false, ← leaves_at, le-leb _ _ c.if-leaves-leaf.true)
 
@@ -68,9 +68,9 @@ pub returns-then-not-record_fits : goal.returns-then-not-record_fits
 unfolding ask_checked
 returns-then-not-record_fits c =
     let good-at : good_desk c.args.desk.now ≡ true = sym c.good.ensures ∙ c.if-not-good.false in
-    let ids_at : c.shape_of-h.result.n ≡ ids_of c.args.desk.now = ap (λ (h : Shape). h.n) c.shape_of-h.ensures in
+    let ids_at : c.h.inside.n ≡ ids_of c.args.desk.now = ap (λ (h : Shape). h.n) (c.h.view_is ∙ c.shape_of-h.ensures) in
     let leaves_at : c.leaves.result ≡ leaves (sizes_of c.args.desk.now) = c.leaves.ensures.0 ∙ ap leaves c.sizes_of.ensures in
-    let fits-at : let a = c.args in c.record_fits.result ≡ record_fits (shape_of a.desk.now).r a.kind a.«record».now = let a = c.args in c.record_fits.ensures ∙ ap (λ (h : Shape). record_fits h.r a.kind a.«record».now) c.shape_of-h.ensures in
+    let fits-at : let a = c.args in c.record_fits.result ≡ record_fits (shape_of a.desk.now).r a.kind a.«record».now = let a = c.args in c.record_fits.ensures ∙ ap (λ (h : Shape). record_fits h.r a.kind a.«record».now) (c.h.view_is ∙ c.shape_of-h.ensures) in
     rw (
       good-at,
       sym (c.is_stopped.ensures ∙ ap (leb first_stopped) c.status_of-status.ensures) ∙ c.if-is_stopped.false,
@@ -86,9 +86,9 @@ pub returns : goal.returns
 unfolding ask_checked
 returns c =
     let good-at : good_desk c.args.desk.now ≡ true = sym c.good.ensures ∙ c.if-not-good.false in
-    let ids_at : c.shape_of-h.result.n ≡ ids_of c.args.desk.now = ap (λ (h : Shape). h.n) c.shape_of-h.ensures in
+    let ids_at : c.h.inside.n ≡ ids_of c.args.desk.now = ap (λ (h : Shape). h.n) (c.h.view_is ∙ c.shape_of-h.ensures) in
     let leaves_at : c.leaves.result ≡ leaves (sizes_of c.args.desk.now) = c.leaves.ensures.0 ∙ ap leaves c.sizes_of.ensures in
-    let fits-at : let a = c.args in c.record_fits.result ≡ record_fits (shape_of a.desk.now).r a.kind a.«record».now = let a = c.args in c.record_fits.ensures ∙ ap (λ (h : Shape). record_fits h.r a.kind a.«record».now) c.shape_of-h.ensures in
+    let fits-at : let a = c.args in c.record_fits.result ≡ record_fits (shape_of a.desk.now).r a.kind a.«record».now = let a = c.args in c.record_fits.ensures ∙ ap (λ (h : Shape). record_fits h.r a.kind a.«record».now) (c.h.view_is ∙ c.shape_of-h.ensures) in
     rw (
       good-at,
       sym (c.is_stopped.ensures ∙ ap (leb first_stopped) c.status_of-status.ensures) ∙ c.if-is_stopped.false,

@@ -13,9 +13,6 @@ use Rattle.asks.proofs.Passed.{length-head}
 use borrow.Author.Rules.{rules}
 use Rattle.asks.proofs.open_request.Goals as goal
 
-pub c_at-at-requires : goal.c_at-at-requires
-c_at-at-requires c = rw c.shape_of-h.ensures c.requires.0.small
-
 pub copy-requires : goal.copy-requires
 copy-requires c =
     let start : c.c_at-at.result ≡ c_at (shape_of c.args.desk.now) = c.c_at-at.ensures ∙ ap c_at c.shape_of-h.ensures in
@@ -29,7 +26,7 @@ overflow_add-at c =
 pub put_record-requires : goal.put_record-requires
 put_record-requires c =
     let start : c.c_at-at.result ≡ c_at (shape_of c.args.desk.now) = c.c_at-at.ensures ∙ ap c_at c.shape_of-h.ensures in
-    let record-length : c.shape_of-h.result.r ≡ (shape_of c.args.desk.now).r = ap (λ (h : Shape). h.r) c.shape_of-h.ensures in
+    let record-length : c.h.inside.r ≡ (shape_of c.args.desk.now).r = ap (λ (h : Shape). h.r) (c.h.view_is ∙ c.shape_of-h.ensures) in
     let e = start in
     let r = record-length in
     let w = c.requires.0.size in
@@ -43,7 +40,7 @@ pub returns : goal.returns
 unfolding opened at_status with_request request_bytes
 returns c =
     let start : c.c_at-at.result ≡ c_at (shape_of c.args.desk.now) = c.c_at-at.ensures ∙ ap c_at c.shape_of-h.ensures in
-    let record-length : c.shape_of-h.result.r ≡ (shape_of c.args.desk.now).r = ap (λ (h : Shape). h.r) c.shape_of-h.ensures in
+    let record-length : c.h.inside.r ≡ (shape_of c.args.desk.now).r = ap (λ (h : Shape). h.r) (c.h.view_is ∙ c.shape_of-h.ensures) in
     let w = c.requires.0.size in
     rw (
       c.from.ensures,

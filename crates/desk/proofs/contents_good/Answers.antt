@@ -10,7 +10,7 @@ use Rattle.desk.proofs.Lengths.{length-contents}
 use Rattle.desk.proofs.contents_good.Goals as goal
 
 pub slice_bounds-same-end : goal.slice_bounds-same-end
-slice_bounds-same-end c = sym (length-take-le contents_len c.args.desk.now c.requires.0)
+slice_bounds-same-end c = sym (length-take-le contents_len c.args.desk.now c.requires)
 
 pub returns : goal.returns
 returns c =

@@ -4,10 +4,9 @@ use mathlib.Core.Bool.{true}
 use native.Mathlib.Omega.{arith}
 use lib.ListN.{length}
 use borrow.Author.Tests.{le-leb, lt-leb, eq-eqb, ne_eqb}
-use Rattle.desk.specs.Layout.{Small, room_at, shape_of, shape_len}
+use Rattle.desk.specs.Layout.{shape_of, shape_len}
 use Rattle.desk.specs.Good.{good_desk, head_good}
-use Rattle.desk.proofs.Known.{head-known, shape-small}
-use borrow.Author.Rules.{rules}
+use Rattle.desk.proofs.Known.{head-known}
 use Rattle.desk.proofs.good.Goals as goal
 
 pub returns-then-desk-lt-B_AT : goal.returns-then-desk-lt-B_AT
@@ -18,12 +17,6 @@ pub returns-then-not-head_good : goal.returns-then-not-head_good
 unfolding good_desk
 returns-then-not-head_good c = rw (le-leb _ _ c.if-desk-lt-B_AT.false, sym c.head_good.ensures ∙ c.if-not-head_good.true)
 
-pub len-requires : goal.len-requires
-len-requires c =
-    let head-true : head_good c.args.desk.now ≡ true = sym c.head_good.ensures ∙ c.if-not-head_good.false in
-    let small : Small c.shape_of-h.result = rw c.shape_of-h.ensures (shape-small c.args.desk.now head-true (omega (arith, c.shared_slice_known-1.given room_at))) in
-    small
-
 pub returns-then-desk-len : goal.returns-then-desk-len
 unfolding good_desk
 returns-then-desk-len c =
@@ -32,22 +25,13 @@ returns-then-desk-len c =
     let d = c.args.desk.now in
     rw (le-leb _ _ c.if-desk-lt-B_AT.false, head-true, ne_eqb (length d) (shape_len (shape_of d)) (λ e. c.if-desk-len.true (e ∙ sym length-is)))
 
-pub contents_good-requires : goal.contents_good-requires
-contents_good-requires c =
-    let head-true : head_good c.args.desk.now ≡ true = sym c.head_good.ensures ∙ c.if-not-head_good.false in
-    let small : Small c.shape_of-h.result = rw c.shape_of-h.ensures (shape-small c.args.desk.now head-true (omega (arith, c.shared_slice_known-1.given room_at))) in
-    (search rules, small)
-
 pub leaves-requires : goal.leaves-requires
 leaves-requires c =
     let head-true : head_good c.args.desk.now ≡ true = sym c.head_good.ensures ∙ c.if-not-head_good.false in
     rw c.sizes_of.ensures (head-known _ head-true).sizes
 
 pub bodies_good-requires : goal.bodies_good-requires
-bodies_good-requires c =
-    let head-true : head_good c.args.desk.now ≡ true = sym c.head_good.ensures ∙ c.if-not-head_good.false in
-    let small : Small c.shape_of-h.result = rw c.shape_of-h.ensures (shape-small c.args.desk.now head-true (omega (arith, c.shared_slice_known-1.given room_at))) in
-    (c.if-desk-len.false ∙ c.len.ensures, (small, (c.leaves.ensures.1.0, omega (arith, c.leaves.ensures.1.1))))
+bodies_good-requires c = (c.if-desk-len.false ∙ c.len.ensures, (c.leaves.ensures.1.0, omega (arith, c.leaves.ensures.1.1)))
 
 pub returns : goal.returns
 unfolding good_desk

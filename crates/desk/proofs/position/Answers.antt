@@ -7,9 +7,6 @@ use Rattle.desk.specs.Layout.{d_at, shape_of, place_at}
 use borrow.Author.Rules.{rules}
 use Rattle.desk.proofs.position.Goals as goal
 
-pub d_at-requires : goal.d_at-requires
-d_at-requires c = rw c.shape_of.ensures c.requires.0.small
-
 pub overflow_add-d_at : goal.overflow_add-d_at
 overflow_add-d_at c =
     let start : c.d_at.result ≡ d_at (shape_of c.args.desk.now) = c.d_at.ensures ∙ ap d_at c.shape_of.ensures in

@@ -7,7 +7,7 @@ use Rattle.words.specs.Bytes.{zeros}
 use Rattle.words.proofs.Splice.{length-zeros}
 use Rattle.words.proofs.Numbers.{length-bytes_of}
 use Rattle.sizes.specs.Sizes.{digest_len}
-use Rattle.desk.specs.Layout.{Small, c_at, c_len, d_at, e_at, e_len, contents}
+use Rattle.desk.specs.Layout.{c_at, c_len, d_at, e_at, e_len, contents}
 use Rattle.desk.proofs.Lengths.{length-contents}
 use Rattle.formats.specs.Format.{new_shape, head_bytes, unmarked, formatted}
 use Rattle.formats.proofs.Unmarked.{length-unmarked}
@@ -15,55 +15,35 @@ use Rattle.formats.proofs.Written.{parts-written}
 use borrow.Author.Rules.{rules}
 use Rattle.formats.proofs.write_desk.Goals as goal
 
-pub c_at-c_at-requires : goal.c_at-c_at-requires
-c_at-c_at-requires c =
-    let small : Small c.new_shape-h.result = let p = c.requires in rw c.new_shape-h.ensures (record { b = omega arith; r = omega arith; n = p.ids_high; s = p.room_high }) in
-    small
-
-pub d_at-d_at-requires : goal.d_at-d_at-requires
-d_at-d_at-requires c =
-    let small : Small c.new_shape-h.result = let p = c.requires in rw c.new_shape-h.ensures (record { b = omega arith; r = omega arith; n = p.ids_high; s = p.room_high }) in
-    small
-
-pub e_at-e_at-requires : goal.e_at-e_at-requires
-e_at-e_at-requires c =
-    let small : Small c.new_shape-h.result = let p = c.requires in rw c.new_shape-h.ensures (record { b = omega arith; r = omega arith; n = p.ids_high; s = p.room_high }) in
-    small
-
-pub put_contents-requires : goal.put_contents-requires
-put_contents-requires c =
-    let small : Small c.new_shape-h.result = let p = c.requires in rw c.new_shape-h.ensures (record { b = omega arith; r = omega arith; n = p.ids_high; s = p.room_high }) in
-    let p = c.requires in (omega arith, small)
-
 pub clear-requires-2 : goal.clear-requires-2
 clear-requires-2 c =
-    let c-start : let a = c.args in c.c_at-c_at.result ≡ c_at (new_shape a.ids a.stash) = c.c_at-c_at.ensures ∙ ap c_at c.new_shape-h.ensures in
-    let d-start : let a = c.args in c.d_at-d_at.result ≡ d_at (new_shape a.ids a.stash) = c.d_at-d_at.ensures ∙ ap d_at c.new_shape-h.ensures in
+    let c-start : let a = c.args in c.c_at-c_at.result ≡ c_at (new_shape a.ids a.stash) = c.c_at-c_at.ensures ∙ ap c_at c.new-h.ensures in
+    let d-start : let a = c.args in c.d_at-d_at.result ≡ d_at (new_shape a.ids a.stash) = c.d_at-d_at.ensures ∙ ap d_at c.new-h.ensures in
     let x = c-start in let y = d-start in let p = c.requires in search rules
 
 pub put_places-requires : goal.put_places-requires
 put_places-requires c =
-    let d-start : let a = c.args in c.d_at-d_at.result ≡ d_at (new_shape a.ids a.stash) = c.d_at-d_at.ensures ∙ ap d_at c.new_shape-h.ensures in
+    let d-start : let a = c.args in c.d_at-d_at.result ≡ d_at (new_shape a.ids a.stash) = c.d_at-d_at.ensures ∙ ap d_at c.new-h.ensures in
     let y = d-start in let p = c.requires in search rules
 
 pub overflow_sub-desk : goal.overflow_sub-desk
 overflow_sub-desk c =
-    let e-start : let a = c.args in c.e_at-e_at.result ≡ e_at (new_shape a.ids a.stash) = c.e_at-e_at.ensures ∙ ap e_at c.new_shape-h.ensures in
+    let e-start : let a = c.args in c.e_at-e_at.result ≡ e_at (new_shape a.ids a.stash) = c.e_at-e_at.ensures ∙ ap e_at c.new-h.ensures in
     let long : length c.put_places.new.dst ≡ length c.args.desk.now = c.put_places.auto.dst ∙ c.clear-2.auto.dst ∙ c.clear.auto.dst ∙ c.copy-2.auto.dst ∙ c.copy.auto.dst ∙ c.put_contents.auto.dst in
     let z = e-start in let p = c.requires in let l = long in search rules
 
 pub clear-requires-3 : goal.clear-requires-3
 clear-requires-3 c =
-    let e-start : let a = c.args in c.e_at-e_at.result ≡ e_at (new_shape a.ids a.stash) = c.e_at-e_at.ensures ∙ ap e_at c.new_shape-h.ensures in
+    let e-start : let a = c.args in c.e_at-e_at.result ≡ e_at (new_shape a.ids a.stash) = c.e_at-e_at.ensures ∙ ap e_at c.new-h.ensures in
     let long : length c.put_places.new.dst ≡ length c.args.desk.now = c.put_places.auto.dst ∙ c.clear-2.auto.dst ∙ c.clear.auto.dst ∙ c.copy-2.auto.dst ∙ c.copy.auto.dst ∙ c.put_contents.auto.dst in
     let z = e-start in let p = c.requires in let l = long in search rules
 
 pub returns : goal.returns
 unfolding formatted
 returns c =
-    let c-start : let a = c.args in c.c_at-c_at.result ≡ c_at (new_shape a.ids a.stash) = c.c_at-c_at.ensures ∙ ap c_at c.new_shape-h.ensures in
-    let d-start : let a = c.args in c.d_at-d_at.result ≡ d_at (new_shape a.ids a.stash) = c.d_at-d_at.ensures ∙ ap d_at c.new_shape-h.ensures in
-    let e-start : let a = c.args in c.e_at-e_at.result ≡ e_at (new_shape a.ids a.stash) = c.e_at-e_at.ensures ∙ ap e_at c.new_shape-h.ensures in
+    let c-start : let a = c.args in c.c_at-c_at.result ≡ c_at (new_shape a.ids a.stash) = c.c_at-c_at.ensures ∙ ap c_at c.new-h.ensures in
+    let d-start : let a = c.args in c.d_at-d_at.result ≡ d_at (new_shape a.ids a.stash) = c.d_at-d_at.ensures ∙ ap d_at c.new-h.ensures in
+    let e-start : let a = c.args in c.e_at-e_at.result ≡ e_at (new_shape a.ids a.stash) = c.e_at-e_at.ensures ∙ ap e_at c.new-h.ensures in
     let long : length c.put_places.new.dst ≡ length c.args.desk.now = c.put_places.auto.dst ∙ c.clear-2.auto.dst ∙ c.clear.auto.dst ∙ c.copy-2.auto.dst ∙ c.copy.auto.dst ∙ c.put_contents.auto.dst in
     let a = c.args in
     let p = c.requires in
@@ -86,7 +66,7 @@ returns c =
       c.copy.ensures,
       c.put_contents.ensures,
       c.head_bytes-head.ensures,
-      c.new_shape-h.ensures,
+      c.new-h.ensures,
       x,
       y,
       z,

@@ -7,9 +7,6 @@ use Rattle.desk.specs.Layout.{c_at, shape_of, id_in}
 use borrow.Author.Rules.{rules}
 use Rattle.opening.proofs.id_asked.Goals as goal
 
-pub c_at-requires : goal.c_at-requires
-c_at-requires c = rw c.shape_of.ensures c.requires.whole.small
-
 pub overflow_add-c_at : goal.overflow_add-c_at
 overflow_add-c_at c =
     let start : c.c_at.result ≡ c_at (shape_of c.args.desk.now) = c.c_at.ensures ∙ ap c_at c.shape_of.ensures in

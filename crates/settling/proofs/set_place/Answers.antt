@@ -5,9 +5,6 @@ use Rattle.desk.specs.Changes.{with_place}
 use borrow.Author.Rules.{rules}
 use Rattle.settling.proofs.set_place.Goals as goal
 
-pub d_at-requires : goal.d_at-requires
-d_at-requires c = rw c.shape_of.ensures c.requires.0.small
-
 pub overflow_add-at : goal.overflow_add-at
 overflow_add-at c =
     let start : c.d_at.result ≡ d_at (shape_of c.args.desk.now) = c.d_at.ensures ∙ ap d_at c.shape_of.ensures in

@@ -14,9 +14,6 @@ use Rattle.desk.specs.Changes.{with_stash, stash_bytes}
 use borrow.Author.Rules.{rules}
 use Rattle.settling.proofs.set_stash.Goals as goal
 
-pub e_at-e-requires : goal.e_at-e-requires
-e_at-e-requires c = rw c.shape_of-shape.ensures c.requires.whole.0.small
-
 pub put16-requires : goal.put16-requires
 put16-requires c =
     let start : c.e_at-e.result ≡ e_at (shape_of c.args.desk.now) = c.e_at-e.ensures ∙ ap e_at c.shape_of-shape.ensures in
@@ -30,7 +27,7 @@ overflow_add-e c =
 pub fill-requires : goal.fill-requires
 fill-requires c =
     let start : c.e_at-e.result ≡ e_at (shape_of c.args.desk.now) = c.e_at-e.ensures ∙ ap e_at c.shape_of-shape.ensures in
-    let room-is : c.shape_of-shape.result.s ≡ room_of c.args.desk.now = ap (λ (h : Shape). h.s) c.shape_of-shape.ensures in
+    let room-is : c.shape.inside.s ≡ room_of c.args.desk.now = ap (λ (h : Shape). h.s) (c.shape.view_is ∙ c.shape_of-shape.ensures) in
     let p = c.requires in
     let e = start in
     let r = room-is in
@@ -42,7 +39,7 @@ pub returns : goal.returns
 unfolding with_stash stash_bytes
 returns c =
     let start : c.e_at-e.result ≡ e_at (shape_of c.args.desk.now) = c.e_at-e.ensures ∙ ap e_at c.shape_of-shape.ensures in
-    let room-is : c.shape_of-shape.result.s ≡ room_of c.args.desk.now = ap (λ (h : Shape). h.s) c.shape_of-shape.ensures in
+    let room-is : c.shape.inside.s ≡ room_of c.args.desk.now = ap (λ (h : Shape). h.s) (c.shape.view_is ∙ c.shape_of-shape.ensures) in
     let a = c.args in
     let p = c.requires in
     let bs = pick a.h a.at.now (blocks_at a.bank.now a.places.now) in

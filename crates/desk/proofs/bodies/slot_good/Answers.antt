@@ -9,9 +9,9 @@ returns-then-id-last c = rw (← c.slot_at-at.ensures, ← c.get16.ensures, ← 
 
 pub returns-then-h-id : goal.returns-then-h-id
 unfolding slot_after
-returns-then-h-id c = rw (← c.slot_at-at.ensures, ← c.get16.ensures, ← c.from-id.ensures, lt-ltb _ _ c.if-id-last.false, lt-leb _ _ c.if-h-id.true)
+returns-then-h-id c = rw (← c.slot_at-at.ensures, ← c.get16.ensures, ← c.from-id.ensures, lt-ltb _ _ c.if-id-last.false, ← c.h.view_is, lt-leb _ _ c.if-h-id.true)
 
 pub returns : goal.returns
 unfolding slot_after
 returns c =
-    rw (c.get16-2.ensures, c.get16-3.ensures, ← c.slot_at-at.ensures, ← c.get16.ensures, ← c.from-id.ensures, lt-ltb _ _ c.if-id-last.false, le-leb _ _ c.if-h-id.false)
+    rw (c.get16-2.ensures, c.get16-3.ensures, ← c.slot_at-at.ensures, ← c.get16.ensures, ← c.from-id.ensures, lt-ltb _ _ c.if-id-last.false, ← c.h.view_is, le-leb _ _ c.if-h-id.false)

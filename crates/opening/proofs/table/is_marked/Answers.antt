@@ -8,9 +8,6 @@ use Rattle.desk.specs.Layout.{d_at, shape_of, place_at, mark_in}
 use borrow.Author.Rules.{rules}
 use Rattle.opening.proofs.table.is_marked.Goals as goal
 
-pub d_at-requires : goal.d_at-requires
-d_at-requires c = rw c.shape_of.ensures c.requires.0.small
-
 pub overflow_add-a : goal.overflow_add-a
 overflow_add-a c =
     let start : c.d_at.result ≡ d_at (shape_of c.args.desk.now) = c.d_at.ensures ∙ ap d_at c.shape_of.ensures in

@@ -5,9 +5,6 @@ use Rattle.words.specs.Numbers.{number}
 use Rattle.desk.specs.Layout.{e_at, shape_of}
 use Rattle.opening.proofs.table.stash_count.Goals as goal
 
-pub e_at-requires : goal.e_at-requires
-e_at-requires c = rw c.shape_of.ensures c.requires.whole.small
-
 pub get16-requires : goal.get16-requires
 get16-requires c =
     let start : c.e_at.result ≡ e_at (shape_of c.args.desk.now) = c.e_at.ensures ∙ ap e_at c.shape_of.ensures in

@@ -9,9 +9,6 @@ use Rattle.desk.proofs.Lengths.{tail-part}
 use borrow.Author.Rules.{rules}
 use Rattle.opening.proofs.table.stash_slots.Goals as goal
 
-pub e_at-a-requires : goal.e_at-a-requires
-e_at-a-requires c = rw c.shape_of.ensures c.requires.whole.small
-
 pub overflow_add-a : goal.overflow_add-a
 overflow_add-a c =
     let start : c.e_at-a.result ≡ e_at (shape_of c.args.desk.now) = c.e_at-a.ensures ∙ ap e_at c.shape_of.ensures in

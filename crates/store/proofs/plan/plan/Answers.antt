@@ -10,8 +10,8 @@ pub arrange-requires : goal.arrange-requires
 arrange-requires c =
     let a = c.args in
     let y = c.requires.ready.0 in (
-      arranged a.desk.now a.path.now a.v a.n a.w.now y a.v.sizes c.shape_of-ids.result.n c.stash_slots-slots.result.now c.stash_count-count.result c.request_of-r.result
-          (ap (λ (x : View). x.sizes) y.view) (ap (λ (h : Shape). h.n) c.shape_of-ids.ensures) c.stash_slots-slots.ensures c.stash_count-count.ensures c.request_of-r.ensures,
+      arranged a.desk.now a.path.now a.v a.n a.w.now y a.v.sizes c.shape.inside.n c.stash_slots-slots.result.now c.stash_count-count.result c.request_of-r.result
+          (ap (λ (x : View). x.sizes) y.view) (ap (λ (h : Shape). h.n) (c.shape.view_is ∙ c.shape_of-shape.ensures)) c.stash_slots-slots.ensures c.stash_count-count.ensures c.request_of-r.ensures,
       record {
         bank_size = c.requires.bank_len.0;
         places_size = c.requires.bank_len.1.0;
@@ -25,6 +25,6 @@ returns c =
     let a = c.args in
     let y = c.requires.ready.0 in
     let r = c.arrange in
-    planned a.desk.now a.path.now a.v a.n a.w.now y a.v.sizes c.shape_of-ids.result.n c.stash_slots-slots.result.now c.stash_count-count.result c.request_of-r.result
-    (ap (λ (x : View). x.sizes) y.view) (ap (λ (h : Shape). h.n) c.shape_of-ids.ensures) c.stash_slots-slots.ensures c.stash_count-count.ensures c.request_of-r.ensures
+    planned a.desk.now a.path.now a.v a.n a.w.now y a.v.sizes c.shape.inside.n c.stash_slots-slots.result.now c.stash_count-count.result c.request_of-r.result
+    (ap (λ (x : View). x.sizes) y.view) (ap (λ (h : Shape). h.n) (c.shape.view_is ∙ c.shape_of-shape.ensures)) c.stash_slots-slots.ensures c.stash_count-count.ensures c.request_of-r.ensures
     a.carried.now c.requires.ready.1 a.v.leaf r.result.all r.result.over r.new.bank r.new.places r.new.at r.ensures

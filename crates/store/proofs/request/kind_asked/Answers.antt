@@ -10,9 +10,6 @@ use Rattle.desk.specs.Layout.{c_at, shape_of, kind_in}
 use Rattle.desk.specs.Readers.{kind_byte}
 use Rattle.store.proofs.request.kind_asked.Goals as goal
 
-pub c_at-a-requires : goal.c_at-a-requires
-c_at-a-requires c = rw c.shape_of.ensures c.requires.whole.small
-
 pub bounds-desk-a : goal.bounds-desk-a
 bounds-desk-a c =
     let start : c.c_at-a.result ≡ c_at (shape_of c.args.desk.now) = c.c_at-a.ensures ∙ ap c_at c.shape_of.ensures in

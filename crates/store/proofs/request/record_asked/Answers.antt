@@ -8,9 +8,6 @@ use Rattle.desk.specs.Layout.{c_at, shape_of}
 use borrow.Author.Rules.{rules}
 use Rattle.store.proofs.request.record_asked.Goals as goal
 
-pub c_at-a-requires : goal.c_at-a-requires
-c_at-a-requires c = rw c.shape_of.ensures c.requires.whole.small
-
 pub overflow_add-a : goal.overflow_add-a
 overflow_add-a c =
     let start : c.c_at-a.result ≡ c_at (shape_of c.args.desk.now) = c.c_at-a.ensures ∙ ap c_at c.shape_of.ensures in
