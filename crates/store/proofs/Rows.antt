@@ -27,7 +27,6 @@ use Rattle.opening.specs.Opening.{view_of, genuine, worn, worn_in}
 use Rattle.opening.specs.Walk.{OpenDesk}
 use Rattle.opening.proofs.Open.{good-open}
 use Rattle.store.specs.declared.Finished.{Finished}
-use Rattle.store.specs.declared.Finished.TheVariants as finished
 use Rattle.store.specs.Steps.{answer_for, buffer_for, was_marked, record_found, to_place, new_stash, new_path, new_desk}
 use Rattle.store.specs.Finish.{entry_rows, path_rows, full_rows, finish_checked, finish_result, finish_by, finish_of}
 

@@ -1,6 +1,5 @@
 -- Finish, steps 3 to 6: the answer, the blocks to place, the new path and the new desk. Assumes nothing.
-use Rattle.sizes.specs.declared.Refusal.{Refusal}
-use Rattle.std.specs.Prelude.{ℕ, Bool, true, false, not, List, [], ◌∷◌, ◌++◌, Ok, Result}
+use Rattle.std.specs.Prelude.{ℕ, Bool, true, false, not, List, [], ◌∷◌, ◌++◌}
 use Rattle.bags.specs.Bags.{those}
 use Rattle.slots.specs.Slots.{Block}
 use Rattle.desk.specs.declared.Kind.{Kind}
