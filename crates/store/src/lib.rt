@@ -116,6 +116,7 @@ fn follow(
     let id = opening::id_asked(desk);
     let leaf = request::new_leaf(desk);
     let marked = request::is_there(request::kind_asked(desk), request::was_marked(desk));
+    // Not made in `place`: that a byte is below 256 is known there of no array that a call has filled, and of a slice that is lent it is.
     let plan = Plan {
         bank,
         places: &places[..c.all],
