@@ -5,3 +5,4 @@ pub mod Figures
 pub mod Walk
 pub mod Order
 pub mod Bank
+pub mod Plans

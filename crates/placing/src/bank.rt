@@ -1,10 +1,9 @@
 // Slots of a bank, laid one behind another where a bucket or the stash has them.
-ghost use Rattle.std.specs.Prelude.{◌≡◌, ◌+◌, ◌*◌, ◌≤◌, length};
+ghost use Rattle.std.specs.Prelude.{◌≡◌, ◌+◌, ◌≤◌, length};
 ghost use Rattle.words.specs.Bytes.{splice};
-ghost use Rattle.sizes.specs.Sizes.{record_len, slot_len, most_room};
-ghost use Rattle.slots.specs.Slots.{block_by, slot_bytes, slots_bytes, slots_with};
-ghost use Rattle.placing.specs.Walk.{pick};
-ghost use Rattle.placing.specs.Bank.{blocks_at, Inside};
+ghost use Rattle.sizes.specs.Sizes.{record_len, slot_len};
+ghost use Rattle.slots.specs.Slots.{Bytes, block_by, slot_bytes};
+ghost use Rattle.placing.specs.Bank.{Inside};
 
 use sizes::Sizes;
 
@@ -19,32 +18,49 @@ pub fn copy_slot(dst: &mut [u8], at: usize, src: &[u8])
     words::copy(dst, at, &slot);
 }
 
-// Lays the slots whose height is `h` from `a` on, and says where they end.
-fn lay(dst: &mut [u8], a: usize, h: u8, at: &[u8], places: &[u16], bank: &[u8]) -> usize
-    requires places_in_bounds { (length places.now ≤ length at.now) × Inside bank.now places.now }
-    requires places_in_bounds_2 { a + slot_len * length (pick h at.now (blocks_at bank.now places.now)) ≤ length dst.old }
-    ensures value { result ≡ a + slot_len * length (pick h at.now (blocks_at bank.now places.now)) }
-    ensures dst_after { dst.new ≡ splice dst.old a (slots_bytes (pick h at.now (blocks_at bank.now places.now))) }
-{
-    let mut k = a;
-    for (place, height) in places.iter().zip(at) {
-        if *height == h {
-            let from = Sizes::SLOT * usize::from(*place);
-            copy_slot(dst, k, &bank[from..]);
-            k += Sizes::SLOT;
-        }
-    }
-    k
+// A plan that is lent: where in the bank each block stands, and the height of the bucket that it goes to. Two arrays, not one of a struct of both:
+// that takes four bytes for three, 360 more than tests/stack/limits leaves to finish.
+#[derive(Clone, Copy, Drop)]
+pub struct Plan<'a> {
+    pub bank: &'a [u8],
+    pub places: &'a [u16],
+    pub at: &'a [u8],
+    pub ghost heights: { length places.now ≤ length at.now },
+    pub ghost inside: { Inside bank.now places.now },
+    pub ghost bytes: { Bytes bank.now },
 }
 
-// Writes `room` slots from `a` on: those of the blocks whose height is `h`, then zeros.
-pub fn fill(dst: &mut [u8], a: usize, room: usize, h: u8, at: &[u8], places: &[u16], bank: &[u8])
-    requires places_in_bounds { (length places.now ≤ length at.now) × Inside bank.now places.now }
-    requires room_in_bounds { (a + slot_len * room ≤ length dst.old) × (room ≤ most_room) }
-    requires places_len_bound { length (pick h at.now (blocks_at bank.now places.now)) ≤ room }
-    ensures { dst.new ≡ splice dst.old a (slots_with room (pick h at.now (blocks_at bank.now places.now))) }
-{
-    let k = lay(dst, a, h, at, places, bank);
-    let n = a + Sizes::SLOT * room - k;
-    words::clear(dst, k, n);
+impl Plan<'_> {
+    ghost use Rattle.std.specs.Prelude.{◌*◌};
+    ghost use Rattle.sizes.specs.Sizes.{most_room};
+    ghost use Rattle.slots.specs.Slots.{slots_bytes, slots_with};
+    ghost use Rattle.placing.specs.Plans.{blocks_for};
+
+    // Lays the slots whose height is `h` from `a` on, and says where they end.
+    fn lay(self, dst: &mut [u8], a: usize, h: u8) -> usize
+        requires { a + slot_len * length (blocks_for self h) ≤ length dst.old }
+        ensures value { result ≡ a + slot_len * length (blocks_for self.entry h) }
+        ensures dst_after { dst.new ≡ splice dst.old a (slots_bytes (blocks_for self.entry h)) }
+    {
+        let mut k = a;
+        for (place, height) in self.places.iter().zip(self.at) {
+            if *height == h {
+                let from = Sizes::SLOT * usize::from(*place);
+                copy_slot(dst, k, &self.bank[from..]);
+                k += Sizes::SLOT;
+            }
+        }
+        k
+    }
+
+    // Writes `room` slots from `a` on: those of the blocks whose height is `h`, then zeros.
+    pub fn fill(self, dst: &mut [u8], a: usize, room: usize, h: u8)
+        requires room_in_bounds { (a + slot_len * room ≤ length dst.old) × (room ≤ most_room) }
+        requires places_len_bound { length (blocks_for self h) ≤ room }
+        ensures { dst.new ≡ splice dst.old a (slots_with room (blocks_for self.entry h)) }
+    {
+        let k = self.lay(dst, a, h);
+        let n = a + Sizes::SLOT * room - k;
+        words::clear(dst, k, n);
+    }
 }

@@ -5,11 +5,11 @@ ghost use Rattle.std.specs.Prelude.{◌≡◌, ◌≤◌, length};
 ghost use Rattle.sizes.specs.Sizes.{digest_len};
 ghost use Rattle.desk.specs.Layout.{Whole, ids_of, room_of};
 ghost use Rattle.desk.specs.Changes.{with_place, with_root, with_stash, closed, settled};
-ghost use Rattle.placing.specs.Bank.{Inside, blocks_at};
-ghost use Rattle.placing.specs.Walk.{pick};
+ghost use Rattle.placing.specs.Plans.{blocks_for};
 ghost use Rattle.settling.specs.Settling.{Held};
 
 use desk::Status;
+use placing::bank::Plan;
 use sizes::Sizes;
 
 // The id's position and mark: the byte that goes to the desk, and no bool, since `settle` and the promises take any.
@@ -21,18 +21,17 @@ pub fn set_place(desk: &mut [u8], id: usize, leaf: u16, mark: u8)
     desk::put_place(desk, at, leaf, mark);
 }
 
-// The stash: `over` blocks, those of the bank at the height above the root.
-pub fn set_stash(desk: &mut [u8], over: usize, h: u8, at: &[u8], places: &[u16], bank: &[u8])
+// The stash: `over` blocks, those of the plan at the height above the root.
+pub fn set_stash(desk: &mut [u8], over: usize, h: u8, plan: Plan)
     requires whole { Whole desk.old × (over ≤ room_of desk.old) }
-    requires places_in_bounds { (length places.now ≤ length at.now) × Inside bank.now places.now }
-    requires places_len { length (pick h at.now (blocks_at bank.now places.now)) ≡ over }
-    ensures { desk.new ≡ with_stash (pick h at.now (blocks_at bank.now places.now)) desk.old }
+    requires places_len { length (blocks_for plan h) ≡ over }
+    ensures { desk.new ≡ with_stash (blocks_for plan.entry h) desk.old }
 {
     let shape = desk::shape_of(desk);
     let e = shape.e_at();
     let room = shape.s;
     words::put16(desk, e, over as u16);
-    placing::bank::fill(desk, e + desk::COUNT, room, h, at, places, bank);
+    plan.fill(desk, e + desk::COUNT, room, h);
 }
 
 // The root digest, and root written.
@@ -62,19 +61,16 @@ pub fn settle(
     mark: u8,
     over: usize,
     h: u8,
-    at: &[u8],
-    places: &[u16],
-    bank: &[u8],
+    plan: Plan,
     root: &[u8; Sizes::DIGEST],
 )
     requires whole { Whole desk.old × ((1 ≤ id) × (id ≤ ids_of desk.old)) }
     requires over_bound { (over ≤ room_of desk.old) × (length root.now ≡ digest_len) }
-    requires places_in_bounds { (length places.now ≤ length at.now) × Inside bank.now places.now }
-    requires held { Held over (pick h at.now (blocks_at bank.now places.now)) }
-    ensures { desk.new ≡ settled id leaf mark (pick h at.now (blocks_at bank.now places.now)) root.now desk.old }
+    requires held { Held over (blocks_for plan h) }
+    ensures { desk.new ≡ settled id leaf mark (blocks_for plan.entry h) root.now desk.old }
 {
     set_place(desk, id, leaf, mark);
-    set_stash(desk, over, h, at, places, bank);
+    set_stash(desk, over, h, plan);
     set_root(desk, root);
     close(desk);
 }

@@ -11,8 +11,8 @@ ghost use Rattle.opening.specs.Walk.{OpenDesk};
 ghost use Rattle.items.specs.Items.{Carries};
 ghost use Rattle.items.specs.Way.{Reached};
 ghost use Rattle.items.specs.Real.{real};
-ghost use Rattle.placing.specs.Bank.{most_blocks, Inside, blocks_at, Planned};
-ghost use Rattle.placing.specs.Walk.{pick};
+ghost use Rattle.placing.specs.Bank.{most_blocks, Planned};
+ghost use Rattle.placing.specs.Plans.{blocks_in, blocks_for};
 ghost use Rattle.store.specs.Finish.{entry_rows, path_rows, full_rows, finish_result, finish_by, finish_of};
 ghost use Rattle.store.specs.Steps.{to_place, new_path, new_desk};
 ghost use Rattle.store.specs.Ready.{Ready};
@@ -21,6 +21,7 @@ ghost use Rattle.store.specs.Laying.{Laid, Writable, Accepted};
 use desk::Status;
 use items::View;
 use placing::Counts;
+use placing::bank::Plan;
 use sizes::{Refusal, Sizes};
 
 mod plan;
@@ -57,15 +58,15 @@ fn entry_checked(desk: &[u8], path: &[u8], record: &[u8]) -> Result<(), Refusal>
 }
 
 // The slots of each bucket, laid into the working copy: the bucket of level `k` has the height L - k in the plan.
-fn lay(w: &mut [u8], s: Sizes, at: &[u8], places: &[u16], bank: &[u8])
-    requires carries { Carries s w.old × ((length places.now ≤ length at.now) × Inside bank.now places.now) }
-    requires by_index { (h : ℕ) → h ≤ s.height → length (pick h at.now (blocks_at bank.now places.now)) ≤ s.slots }
-    ensures { Laid s at.now (blocks_at bank.now places.now) w.new (s.height + 1) }
+fn lay(w: &mut [u8], s: Sizes, plan: Plan)
+    requires carries { Carries s w.old }
+    requires by_index { (h : ℕ) → h ≤ s.height → length (blocks_for plan h) ≤ s.slots }
+    ensures { Laid s plan.entry.at.now (blocks_in plan.entry) w.new (s.height + 1) }
 {
     for k in 0..s.height + 1 {
         let a = s.item_at(k) + Sizes::COUNTER;
         let h = (s.height - k) as u8;
-        placing::bank::fill(w, a, s.slots, h, at, places, bank);
+        plan.fill(w, a, s.slots, h);
     }
 }
 
@@ -80,33 +81,20 @@ fn accept(
     leaf: u16,
     marked: bool,
     over: usize,
-    at: &[u8],
-    places: &[u16],
-    bank: &[u8],
+    plan: Plan,
 )
     requires whole { Whole desk.old × ((1 ≤ id) × (id ≤ ids_of desk.old)) }
     requires carries { Carries v.sizes path.old × ((length path.old ≡ path_len v.sizes) × Carries v.sizes w.old) }
     requires leaf_bound { (v.leaf < leaves v.sizes) × Reached v path.old n }
-    requires places_in_bounds { (length places.now ≤ length at.now) × Inside bank.now places.now }
-    requires writable { Writable v.sizes (room_of desk.old) over at.now (blocks_at bank.now places.now) }
-    ensures { Accepted v path.old desk.old path.new desk.new id leaf (from_bool marked) at.now (blocks_at bank.now places.now) }
+    requires writable { Writable v.sizes (room_of desk.old) over plan.at.now (blocks_in plan) }
+    ensures { Accepted v path.old desk.old path.new desk.new id leaf (from_bool marked) plan.entry.at.now (blocks_in plan.entry) }
 {
     let s = v.sizes;
-    lay(w, s, at, places, bank);
+    lay(w, s, plan);
     let root = writing::write_path(path, w, v, n);
     let h = (s.height + 1) as u8;
-    settling::settle(
-        desk,
-        id,
-        leaf,
-        u8::from(marked),
-        over,
-        h,
-        at,
-        places,
-        bank,
-        &root,
-    );
+    let mark = u8::from(marked);
+    settling::settle(desk, id, leaf, mark, over, h, plan, &root);
 }
 
 // Steps 4 and 6 by a plan: path and desk are then the new ones.
@@ -129,13 +117,13 @@ fn follow(
     let id = opening::id_asked(desk);
     let leaf = request::new_leaf(desk);
     let marked = request::is_there(request::kind_asked(desk), request::was_marked(desk));
-    let all = c.all;
-    let over = c.over;
-    let at = &at[..all];
-    let places = &places[..all];
-    accept(
-        desk, path, w, v, n, id, leaf, marked, over, at, places, bank,
-    );
+    // Not made in `place`: that a byte is below 256 is known there of no array that a call has filled, and of a slice that is lent it is.
+    let plan = Plan {
+        bank,
+        places: &places[..c.all],
+        at: &at[..c.all],
+    };
+    accept(desk, path, w, v, n, id, leaf, marked, c.over, plan);
 }
 
 // A bank for the most blocks that one finish can meet.

@@ -6,8 +6,7 @@ use Rattle.words.specs.Numbers.{bytes_of}
 use Rattle.words.proofs.Numbers.{length-bytes_of}
 use Rattle.words.proofs.Splice.{splice-next}
 use Rattle.slots.specs.Slots.{slots_with}
-use Rattle.placing.specs.Bank.{blocks_at}
-use Rattle.placing.specs.Walk.{pick}
+use Rattle.placing.specs.Plans.{blocks_for}
 use Rattle.desk.specs.declared.Shape.{Shape}
 use Rattle.desk.specs.Layout.{e_at, room_of, shape_of}
 use Rattle.desk.specs.Changes.{with_stash, stash_bytes}
@@ -33,7 +32,7 @@ fill-requires c =
     let r = room-is in
     let k = c.put16.auto.s in
     let w = p.whole.0.size in
-    let s = p.whole.0.small.s in record { places_in_bounds = p.places_in_bounds; room_in_bounds = (omega arith, omega arith); places_len_bound = omega (arith, p.places_len, p.whole.1) }
+    let s = p.whole.0.small.s in record { room_in_bounds = (omega arith, omega arith); places_len_bound = omega (arith, p.places_len, p.whole.1) }
 
 pub returns : goal.returns
 unfolding with_stash stash_bytes
@@ -42,7 +41,7 @@ returns c =
     let room-is : c.shape.inside.s ≡ room_of c.args.desk.now = ap (λ (h : Shape). h.s) (c.shape.view_is ∙ c.shape_of-shape.ensures) in
     let a = c.args in
     let p = c.requires in
-    let bs = pick a.h a.at.now (blocks_at a.bank.now a.places.now) in
+    let bs = blocks_for a.plan a.h in
     let w = p.whole.0.size in
     rw (c.fill.ensures, c.put16.ensures, start, room-is, ← p.places_len)
     (splice-next a.desk.now (e_at (shape_of a.desk.now)) (bytes_of 2 (length bs)) (slots_with (room_of a.desk.now) bs) 2 (length-bytes_of 2 (length bs)) (omega arith))

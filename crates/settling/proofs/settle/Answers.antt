@@ -1,8 +1,7 @@
 -- `settling::settle` meets its contract: the four changes, one after another, each of a desk that is still whole. Assumes nothing.
 use mathlib.Core.Path.{◌≡◌}
 use native.Mathlib.Omega.{arith}
-use Rattle.placing.specs.Bank.{blocks_at}
-use Rattle.placing.specs.Walk.{pick}
+use Rattle.placing.specs.Plans.{blocks_for}
 use Rattle.desk.specs.Layout.{Whole, room_of}
 use Rattle.desk.specs.Changes.{settled}
 use Rattle.settling.proofs.Whole.{place-whole, place-room, stash-whole, root-whole}
@@ -20,7 +19,7 @@ set_stash-requires c =
     let p = c.requires.whole in
     rw c.set_place.ensures (place-room a.desk.now p.0 a.id a.leaf a.mark p.1.0 p.1.1) in
     let p = c.requires in
-    let r = placed-room in record { whole = (placed-whole, omega (arith, p.over_bound.0)); places_in_bounds = p.places_in_bounds; places_len = p.held.count }
+    let r = placed-room in record { whole = (placed-whole, omega (arith, p.over_bound.0)); places_len = p.held.count }
 
 pub set_root-requires : goal.set_root-requires
 set_root-requires c =
@@ -35,7 +34,7 @@ set_root-requires c =
     let k = p.held in
     let r = placed-room in
     rw c.set_stash.ensures
-    (stash-whole c.set_place.new.desk placed-whole (pick a.h a.at.now (blocks_at a.bank.now a.places.now)) k.fit
+    (stash-whole c.set_place.new.desk placed-whole (blocks_for a.plan a.h) k.fit
     (omega (arith, k.count, p.over_bound.0))) in
     stashed-whole
 
@@ -52,7 +51,7 @@ close-requires c =
     let k = p.held in
     let r = placed-room in
     rw c.set_stash.ensures
-    (stash-whole c.set_place.new.desk placed-whole (pick a.h a.at.now (blocks_at a.bank.now a.places.now)) k.fit
+    (stash-whole c.set_place.new.desk placed-whole (blocks_for a.plan a.h) k.fit
     (omega (arith, k.count, p.over_bound.0))) in
     let rooted-whole : Whole c.set_root.new.desk = rw c.set_root.ensures (root-whole c.set_stash.new.desk stashed-whole c.args.root.now c.requires.over_bound.1) in
     rooted-whole

@@ -5,8 +5,7 @@ use mathlib.Core.List.{List}
 use native.Mathlib.Omega.{arith}
 use Rattle.slots.specs.Slots.{Block, slots_with}
 use Rattle.writing.specs.Pieces.{Holds}
-use Rattle.placing.specs.Bank.{blocks_at}
-use Rattle.placing.specs.Walk.{pick}
+use Rattle.placing.specs.Plans.{blocks_in, blocks_for}
 use Rattle.desk.specs.Changes.{settled}
 use Rattle.store.specs.Laying.{Placed}
 use borrow.Author.Rules.{rules}
@@ -19,11 +18,11 @@ write_path-root-requires c =
 
 pub settle-requires : goal.settle-requires
 settle-requires c =
-    let p = c.requires in record { whole = p.whole; over_bound = (p.writable.room_enough, search rules); places_in_bounds = p.places_in_bounds; held = p.writable.held }
+    let p = c.requires in record { whole = p.whole; over_bound = (p.writable.room_enough, search rules); held = p.writable.held }
 
 pub returns : goal.returns
 returns c =
-    let holds_at : let a = c.args in (placed : List (List Block)) → Placed a.v.sizes a.at.now (blocks_at a.bank.now a.places.now) placed → Holds a.v c.lay.new.w placed = λ placed p k h. let s = c.args.v.sizes in
+    let holds_at : let a = c.args in (placed : List (List Block)) → Placed a.v.sizes a.plan.at.now (blocks_in a.plan) placed → Holds a.v c.lay.new.w placed = λ placed p k h. let s = c.args.v.sizes in
     c.lay.ensures k (omega arith) ∙ ap (slots_with s.slots) (p (s.height - k) (omega arith)) in
     let a = c.args in
     record {
@@ -31,7 +30,7 @@ returns c =
       desk_is =
           λ placed p.
           c.settle.ensures
-          ∙ ap (λ (m : ℕ). settled a.id a.leaf m (pick (a.v.sizes.height + 1) a.at.now (blocks_at a.bank.now a.places.now)) c.write_path-root.result a.desk.now) c.from.ensures
-          ∙ ap (λ (r : List ℕ). settled a.id a.leaf (from_bool a.marked) (pick (a.v.sizes.height + 1) a.at.now (blocks_at a.bank.now a.places.now)) r a.desk.now)
+          ∙ ap (λ (m : ℕ). settled a.id a.leaf m (blocks_for a.plan (a.v.sizes.height + 1)) c.write_path-root.result a.desk.now) c.from-mark.ensures
+          ∙ ap (λ (r : List ℕ). settled a.id a.leaf (from_bool a.marked) (blocks_for a.plan (a.v.sizes.height + 1)) r a.desk.now)
           (c.write_path-root.ensures.root_is placed (holds_at placed p));
     }

@@ -1,8 +1,8 @@
 -- `store::follow` meets its contract: the plan can be written, and what is accepted by it is what the paper writes. Assumes nothing.
 use mathlib.Core.Bool.{Bool}
-use mathlib.Core.Path.{◌≡◌, ap, ap₂, ◌∙◌}
+use mathlib.Core.Path.{ap, ap₂, ◌∙◌}
 use native.Mathlib.Omega.{arith}
-use lib.ListN.{length, take, length-take}
+use lib.ListN.{length-take}
 use Rattle.desk.specs.declared.Kind.{Kind}
 use Rattle.desk.specs.Layout.{room_of}
 use Rattle.items.specs.Real.{real}
@@ -14,11 +14,16 @@ use Rattle.std.specs.Int.{from_bool}
 use Rattle.store.proofs.Carried.{mark-is}
 use Rattle.store.proofs.follow.Goals as goal
 
-pub slice_bounds-at-end : goal.slice_bounds-at-end
-slice_bounds-at-end c = let p = c.requires in simp length-take (omega (arith, p.planned.few, p.over_bound))
+pub slice_bounds-plan-end : goal.slice_bounds-plan-end
+slice_bounds-plan-end c = let p = c.requires in simp length-take (omega (arith, p.planned.few, p.over_bound))
 
-pub slice_bounds-places-end : goal.slice_bounds-places-end
-slice_bounds-places-end c = let p = c.requires in simp length-take (omega (arith, p.planned.few, p.over_bound))
+pub slice_bounds-plan-end-2 : goal.slice_bounds-plan-end-2
+slice_bounds-plan-end-2 c = let p = c.requires in simp length-take (omega (arith, p.planned.few, p.over_bound))
+
+pub invariant_of-plan : goal.invariant_of-plan
+invariant_of-plan c =
+    let p = c.requires.planned in
+    record { heights = simp length-take (omega (arith, p.few, c.requires.over_bound)); inside = p.inside; bytes = λ i. omega (arith, c.type_inv.bank i) }
 
 pub accept-requires : goal.accept-requires
 accept-requires c =
@@ -30,8 +35,7 @@ accept-requires c =
     let all = a.c.all in
     let z = view-size d a.path.now a.v a.n a.w.now y in
     let i = c.id_asked-id.ensures in
-    let f : length (take all a.places.now) ≡ all = simp length-take (omega (arith, p.few, m)) in
-    let g : length (take all a.at.now) ≡ all = simp length-take (omega (arith, p.few, m)) in record { whole = (y.good.whole, (omega (arith, i, y.good.low), omega (arith, i, y.good.high))); carries = (record { range = view-range d y.good a.v y.view; room = omega (arith, z) }, (z, copy-carries d y.good a.v a.w.now y.view y.unsealed.size)); leaf_bound = (view-leaf d y.good a.v y.view, view-reached d a.path.now a.v a.n a.w.now y); places_in_bounds = (omega (arith, f, g), p.inside); writable = plan-writable a.v.sizes a.v.leaf (to_place real d a.path.now) all a.c.over a.bank.now a.places.now a.at.now p (room_of d) (λ i. omega (arith, c.shared_slice_known-1.given i)) m.0 }
+    record { whole = (y.good.whole, (omega (arith, i, y.good.low), omega (arith, i, y.good.high))); carries = (record { range = view-range d y.good a.v y.view; room = omega (arith, z) }, (z, copy-carries d y.good a.v a.w.now y.view y.unsealed.size)); leaf_bound = (view-leaf d y.good a.v y.view, view-reached d a.path.now a.v a.n a.w.now y); writable = plan-writable a.v.sizes a.v.leaf (to_place real d a.path.now) all a.c.over a.bank.now a.places.now a.at.now p (room_of d) (λ i. omega (arith, c.type_inv.bank i)) m.0 }
 
 pub returns : goal.returns
 returns c =

@@ -2,7 +2,7 @@
 use Prim.Native.Nat.{ℕ, ◌+◌, ◌-◌}
 use mathlib.Core.Path.{◌≡◌, refl, subst}
 use native.Mathlib.Omega.{arith}
-use Rattle.placing.specs.Bank.{blocks_at}
+use Rattle.placing.specs.Plans.{blocks_in}
 use Rattle.placing.specs.Walk.{pick}
 use Rattle.placing.proofs.Laid.{fit_at, pick-fit}
 use Rattle.store.specs.Laying.{Laid}
@@ -15,20 +15,20 @@ loop-k-init c = λ j h. absurd (omega arith)
 pub fill-requires : goal.fill-requires
 fill-requires c =
     let l = c.loop-k in
-    let i = c.item_at-a.ensures in record { places_in_bounds = c.requires.carries.1; room_in_bounds = (omega (arith, c.requires.carries.0.room), omega arith); places_len_bound = c.requires.by_index (c.args.s.height - l.k) (omega arith) }
+    let i = c.item_at-a.ensures in record { room_in_bounds = (omega (arith, c.requires.carries.room), omega arith); places_len_bound = c.requires.by_index (c.args.s.height - l.k) (omega arith) }
 
 pub loop-k-preserved : goal.loop-k-preserved
 loop-k-preserved c =
     let a = c.args in
     let l = c.loop-k in
-    let bs = blocks_at a.bank.now a.places.now in
+    let bs = blocks_in a.plan in
     let h = a.s.height - l.k in
-    let fit = pick-fit h a.at.now bs (fit_at a.bank.now a.places.now (λ i. omega (arith, c.type_inv.bank i)) c.requires.carries.1.1) in
-    laid_more a.s a.at.now bs l.w c.fill.new.dst l.k (c.item_at-a.result + 8) h (omega arith) (omega (arith, c.requires.carries.0.room)) (omega (arith, c.item_at-a.ensures.is)) refl
-    (length-with a.s.slots (pick h a.at.now bs) fit (c.requires.by_index h (omega arith))) c.fill.ensures l.invariant
+    let fit = pick-fit h a.plan.at.now bs (fit_at a.plan.bank.now a.plan.places.now a.plan.bytes a.plan.inside) in
+    laid_more a.s a.plan.at.now bs l.w c.fill.new.dst l.k (c.item_at-a.result + 8) h (omega arith) (omega (arith, c.requires.carries.room)) (omega (arith, c.item_at-a.ensures.is)) refl
+    (length-with a.s.slots (pick h a.plan.at.now bs) fit (c.requires.by_index h (omega arith))) c.fill.ensures l.invariant
 
 pub returns : goal.returns
 returns c =
     let l = c.loop-k in
     let e : l.k ≡ c.args.s.height + 1 = omega arith in
-    subst (λ (n : ℕ). Laid c.args.s c.args.at.now (blocks_at c.args.bank.now c.args.places.now) l.w n) e l.invariant
+    subst (λ (n : ℕ). Laid c.args.s c.args.plan.at.now (blocks_in c.args.plan) l.w n) e l.invariant
