@@ -52,7 +52,11 @@ pub fn record_cell(chapter: u8, record: &[u8]) -> Cell
     let Some(entry) = crate::read(record) else {
         return Cell::Bad;
     };
-    if entry.chapter == chapter { verdict_cell(entry.verdict) } else { Cell::Bad }
+    if entry.chapter == chapter {
+        verdict_cell(entry.verdict)
+    } else {
+        Cell::Bad
+    }
 }
 
 // A read's column, by its answer and the record that it left. No read is answered by Done; were one, it would count as bad and paint nothing over.
