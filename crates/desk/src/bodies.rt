@@ -4,33 +4,33 @@ ghost use Rattle.words.specs.Tests.{all};
 ghost use Rattle.sizes.specs.Sizes.{request_head, d_len};
 ghost use Rattle.slots.specs.Slots.{slot_by};
 ghost use Rattle.desk.specs.Layout.{slot_at, e_len, shape_len};
-ghost use Rattle.desk.specs.Together.{InSixteenBits};
 ghost use Rattle.desk.specs.Good.{open_good, request_good, slot_after, slot_good, stash_good, bodies_good};
 
+use super::leaves::Leaves;
 use super::{Shape, Status, positions};
 use sizes::Sizes;
 
 // Whether body (c) is good at a status that is not 0.
-fn open_good(c: &[u8], most: usize, n: usize) -> bool
+fn open_good(c: &[u8], most: Leaves, n: usize) -> bool
     requires { request_head ≤ length c.now }
     ensures { result ≡ open_good most n c.now }
 {
     let kind = c[super::KIND_IN];
     let id = usize::from(words::get16(c, super::ID_IN));
-    let leaf = usize::from(words::get16(c, super::NEW_LEAF_IN));
+    let leaf = words::get16(c, super::NEW_LEAF_IN);
     let zeros = words::get16(c, super::ZEROS_IN);
     let start = super::REQUEST_HEAD;
     (kind <= 1)
         & (c[super::ZERO_IN] == 0)
         & (1 <= id)
         & (id <= n)
-        & (leaf < most)
+        & most.has(leaf)
         & (zeros == 0)
         & ((kind == 1) | words::is_zero(&c[start..]))
 }
 
 // Whether body (c) is good. The status is the byte as it stands: whether it is one is looked at elsewhere.
-fn request_good(c: &[u8], status: u8, most: usize, n: usize) -> bool
+fn request_good(c: &[u8], status: u8, most: Leaves, n: usize) -> bool
     requires { request_head ≤ length c.now }
     ensures { result ≡ request_good status most n c.now }
 {
@@ -87,8 +87,8 @@ fn stash_good(d: &[u8], e: &[u8], h: Shape) -> bool
 }
 
 // Whether the bodies (c), (d) and (e) are good.
-pub fn bodies_good(desk: &[u8], most: usize, h: Shape, status: u8) -> bool
-    requires { (length desk.now ≡ shape_len h) × InSixteenBits most }
+pub fn bodies_good(desk: &[u8], most: Leaves, h: Shape, status: u8) -> bool
+    requires { length desk.now ≡ shape_len h }
     ensures { result ≡ bodies_good most h status desk.now }
 {
     let c_at = h.c_at();

@@ -2,11 +2,13 @@
 // the laws that callers cite are in proofs/.
 #![tactic(auto)]
 
+use leaves::Leaves;
 use sizes::Sizes;
 use std::marker::Model;
 
 // When the bodies (c), (d) and (e) are good.
 mod bodies;
+mod leaves;
 mod positions;
 
 ghost use Rattle.std.specs.Prelude.{◌≡◌, true, leb, [], ◌∷◌, ◌++◌, ◌+◌, ◌≤◌, length};
@@ -305,7 +307,7 @@ pub fn good(desk: &[u8]) -> bool
     if desk.len() != h.len() {
         return false;
     }
-    contents_good(desk, h) & bodies::bodies_good(desk, sizes_of(desk).leaves(), h, desk[STATUS])
+    contents_good(desk, h) & bodies::bodies_good(desk, Leaves::of(sizes_of(desk)), h, desk[STATUS])
 }
 
 // The status of a good desk.

@@ -5,28 +5,29 @@ ghost use Rattle.words.specs.Bytes.{part};
 ghost use Rattle.sizes.specs.Sizes.{place_len, d_len};
 ghost use Rattle.desk.specs.Layout.{mark_in};
 ghost use Rattle.desk.specs.Good.{place_good, places_good};
-ghost use Rattle.desk.specs.Together.{together, together_len, InSixteenBits, none_above};
+ghost use Rattle.desk.specs.Together.{together, together_len, none_above};
+
+use super::leaves::Leaves;
 
 const TOGETHER: usize = 64;
 
 const BYTES: usize = super::PLACE * TOGETHER;
 
 // Whether the place of number `i`, from 0 on, holds a leaf and a mark.
-fn place_good(d: &[u8], i: usize, most: usize) -> bool
+fn place_good(d: &[u8], i: usize, most: Leaves) -> bool
     requires { place_len * i + mark_in < length d.now }
     ensures { result ≡ place_good most d.now i }
 {
     let at = super::PLACE * i;
-    (usize::from(words::get16(d, at)) < most) & (d[at + super::MARK_IN] <= 1)
+    most.has(words::get16(d, at)) & (d[at + super::MARK_IN] <= 1)
 }
 
 // The highest place, with the last leaf and a mark, sixty-four times: so often that the compiler keeps the loop over them. That they are good places is
 // all that is asked of them: lower ones would send more places to be looked at one by one, and no answer would change.
-fn highest(most: usize) -> [u8; BYTES]
-    requires { InSixteenBits most }
+fn highest(most: Leaves) -> [u8; BYTES]
     ensures { places_good most together result ≡ true }
 {
-    let last = (most - 1) as u16;
+    let last = most.last();
     let mut top = [0u8; BYTES];
     for i in 0..TOGETHER {
         super::put_place(&mut top, super::PLACE * i, last, 1);
@@ -60,8 +61,8 @@ fn low(d: &[u8], i: usize, n: usize, top: &[u8; BYTES]) -> bool
 }
 
 // Whether the first `n` places are good. Not a `for`: the walk goes on by sixty-four places or by one.
-pub fn places_good(d: &[u8], n: usize, most: usize) -> bool
-    requires { (d_len n ≤ length d.now) × InSixteenBits most }
+pub fn places_good(d: &[u8], n: usize, most: Leaves) -> bool
+    requires { d_len n ≤ length d.now }
     ensures { result ≡ places_good most n d.now }
 {
     let top = highest(most);

@@ -1,7 +1,6 @@
 -- `desk::good` meets its contract: the tests of the definition, in its order; the head decides before the shape is used, and the length before a body is read. Assumes nothing.
 use mathlib.Core.Path.{◌≡◌, sym, ap, ◌∙◌}
 use mathlib.Core.Bool.{true}
-use native.Mathlib.Omega.{arith}
 use lib.ListN.{length}
 use borrow.Author.Tests.{le-leb, lt-leb, eq-eqb, ne_eqb}
 use Rattle.desk.specs.Layout.{shape_of, shape_len}
@@ -25,13 +24,13 @@ returns-then-desk-len c =
     let d = c.args.desk.now in
     rw (le-leb _ _ c.if-desk-lt-B_AT.false, head-true, ne_eqb (length d) (shape_len (shape_of d)) (λ e. c.if-desk-len.true (e ∙ sym length-is)))
 
-pub leaves-requires : goal.leaves-requires
-leaves-requires c =
+pub of-requires : goal.of-requires
+of-requires c =
     let head-true : head_good c.args.desk.now ≡ true = sym c.head_good.ensures ∙ c.if-not-head_good.false in
     rw c.sizes_of.ensures (head-known _ head-true).sizes
 
 pub bodies_good-requires : goal.bodies_good-requires
-bodies_good-requires c = (c.if-desk-len.false ∙ c.len.ensures, (c.leaves.ensures.1.0, omega (arith, c.leaves.ensures.1.1)))
+bodies_good-requires c = c.if-desk-len.false ∙ c.len.ensures
 
 pub returns : goal.returns
 unfolding good_desk
@@ -43,7 +42,7 @@ returns c =
       c.contents_good.ensures,
       c.bodies_good.ensures,
       c.shape_of-h.ensures,
-      c.leaves.ensures.0,
+      c.of.ensures,
       c.sizes_of.ensures,
       le-leb _ _ c.if-desk-lt-B_AT.false,
       head-true,

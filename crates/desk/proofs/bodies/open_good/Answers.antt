@@ -5,4 +5,4 @@ use Rattle.desk.proofs.bodies.open_good.Goals as goal
 
 pub returns : goal.returns
 unfolding open_good
-returns c = rw (c.is_zero.ensures, c.from-id.ensures, c.get16.ensures, c.from-leaf.ensures, c.get16-2.ensures, c.get16-zeros.ensures, tail-part)
+returns c = rw (c.is_zero.ensures, c.from-id.ensures, c.get16.ensures, c.has.ensures, c.get16-leaf.ensures, c.get16-zeros.ensures, tail-part)

@@ -7,4 +7,4 @@ use Rattle.desk.specs.Together.{together, together_len}
 use Rattle.desk.proofs.positions.highest.Given as goal
 
 abbrev pub invariant-loop-i : goal.invariant-loop-i
-invariant-loop-i l = (length l.top ≡ together_len) × (places_good l.most together l.top ≡ true)
+invariant-loop-i l = (length l.top ≡ together_len) × (places_good l.fn.most together l.top ≡ true)
