@@ -1,4 +1,4 @@
-// The listing's lines, each written from the start of a buffer on; each function answers with the place after what it wrote. Assumes nothing.
+// The listing's lines, each written from the start of a buffer on, and the writer that they are written with; who writes a line answers its length. Assumes nothing.
 #![tactic(auto)]
 
 pub mod writer;

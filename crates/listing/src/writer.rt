@@ -1,4 +1,5 @@
 // A writer of text: the buffer that it was lent, and the place up to which it is written. Assumes nothing.
+// No `fmt::Write`: a record's text is bytes that need be no `str`, and `write!` may answer an error, where a put that has room can't fail.
 ghost use Rattle.std.specs.Prelude.{◌≡◌, ◌+◌, ◌≤◌, length};
 
 use text::numbers;
