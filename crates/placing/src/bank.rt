@@ -19,7 +19,7 @@ pub fn copy_slot(dst: &mut [u8], at: usize, src: &[u8])
 }
 
 // A plan that is lent: where in the bank each block stands, and the height of the bucket that it goes to. Two arrays, not one of a struct of both:
-// that takes four bytes for three, 360 more than tests/stack/limits leaves to finish.
+// that takes four bytes a block where these take three, 360 in all, and tests/stack/limits leaves finish no room for them.
 #[derive(Clone, Copy, Drop)]
 pub struct Plan<'a> {
     pub bank: &'a [u8],

@@ -26,6 +26,7 @@ pub struct Counts {
 }
 
 // The plan for the blocks in the first `n` slots of a bank, on the path to `leaf`.
+// Not a struct of the three arrays: the bank may be of any length that holds `n` slots (`ids_le_most_ids`), and an array has one.
 pub fn plan(
     bank: &[u8],
     n: usize,
