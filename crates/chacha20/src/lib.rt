@@ -38,21 +38,39 @@ fn mix(part: &mut [u8], ks: &[u8])
     }
 }
 
-// The bytes of `part`, at most five blocks, combined with the blocks from n on: with five at once, or one by one where there are at most
-// two, since five at once would cost more.
-fn mix_blocks(key: &[u8; 32], nonce: &[u8; 12], n: u32, part: &mut [u8])
+// The bytes of `part` combined with the blocks from n on, five at once. Not inlined, nor is `mix_two`: the arrays of both would lie in one frame,
+// of more bytes than tests/stack/limits leaves.
+#[inline(never)]
+fn mix_five(key: &[u8; 32], nonce: &[u8; 12], n: u32, part: &mut [u8])
     requires { length part.old ≤ 320 }
     ensures { part.new ≡ spec.zipped bit_xor part.old (spec.blocks key.now nonce.now n 5) }
 {
-    if TWO < part.len() {
-        mix(part, &five::five(key, nonce, n));
-        return;
-    }
+    mix(part, &five::five(key, nonce, n));
+}
+
+// The same one by one, where there are at most two: five at once would cost more.
+#[inline(never)]
+fn mix_two(key: &[u8; 32], nonce: &[u8; 12], n: u32, part: &mut [u8])
+    requires { length part.old ≤ 128 }
+    ensures { part.new ≡ spec.zipped bit_xor part.old (spec.blocks key.now nonce.now n 5) }
+{
     let mut next = n;
     for at in (0..part.len()).step_by(BLOCK) {
         let len = BLOCK.min(part.len() - at);
         mix(&mut part[at..at + len], &block::block(key, nonce, next));
         next = next.wrapping_add(1);
+    }
+}
+
+// The bytes of `part`, at most five blocks, combined with the blocks from n on.
+fn mix_blocks(key: &[u8; 32], nonce: &[u8; 12], n: u32, part: &mut [u8])
+    requires { length part.old ≤ 320 }
+    ensures { part.new ≡ spec.zipped bit_xor part.old (spec.blocks key.now nonce.now n 5) }
+{
+    if TWO < part.len() {
+        mix_five(key, nonce, n, part);
+    } else {
+        mix_two(key, nonce, n, part);
     }
 }
 

@@ -34,25 +34,48 @@ impl Hasher {
         ensures { Grown self part.now result }
     {
         let (front, rest) = part.split_at(head(self.total, part.len()));
-        let first = little(self, front);
+        let mut h = self;
+        h.little(front);
         if rest.is_empty() {
-            return first;
+            return h;
         }
         let (middle, end) = rest.split_at(rest.len() / BLOCK * BLOCK);
-        little(whole(first, middle), end)
+        h.whole(middle);
+        h.little(end);
+        h
     }
 
+    // Some bytes more, no more than the block has room for.
+    fn little(&mut self, part: &[u8])
+        requires { self.old.total % 64 + length part.now ≤ 64 }
+        ensures { Grown self.old part.now self.new }
+    {
+        let at = begun(self.total);
+        copy(&mut self.block, at, part);
+        self.total = self.total.wrapping_add(part.len() as u64);
+        if at + part.len() == BLOCK {
+            self.state = blocks(self.state, &self.block);
+        }
+    }
+
+    // Whole blocks more, where no block is begun.
+    fn whole(&mut self, part: &[u8])
+        requires total_value { self.old.total % 64 ≡ 0 }
+        requires part_len { length part.now % 64 ≡ 0 }
+        ensures { Grown self.old part.now self.new }
+    {
+        self.state = blocks(self.state, part);
+        self.total = self.total.wrapping_add(part.len() as u64);
+    }
+
+    // Its arrays would lie in the frames of its callers, below the rounds: not inlined, they are gone again when the rounds are made.
+    #[inline(never)]
     pub fn finish(self) -> [u8; 32]
         ensures { (bs : List ℕ) → Holds self bs → result ≡ sha256 bs }
     {
-        let Hasher {
-            state,
-            block,
-            total,
-        } = self;
         let mut p = [0u8; 128];
-        last(&mut p, &block[..begun(total)], total);
-        bytes_of(blocks(state, &p[..BLOCK * last_blocks(total)]))
+        last(&mut p, &self.block[..begun(self.total)], self.total);
+        bytes_of(blocks(self.state, &p[..BLOCK * last_blocks(self.total)]))
     }
 }
 
@@ -69,44 +92,10 @@ fn head(total: u64, len: usize) -> usize
     len.min(BLOCK - at)
 }
 
-// Some bytes more, no more than the block has room for.
-fn little(h: Hasher, part: &[u8]) -> Hasher
-    requires { h.total % 64 + length part.now ≤ 64 }
-    ensures { Grown h part.now result }
-{
-    let at = begun(h.total);
-    let mut block = h.block;
-    copy(&mut block, at, part);
-    let state = if at + part.len() == BLOCK {
-        blocks(h.state, &block)
-    } else {
-        h.state
-    };
-    Hasher {
-        state,
-        block,
-        total: h.total.wrapping_add(part.len() as u64),
-    }
-}
-
 // The hash value after the blocks of `part`.
 fn blocks(start: [u32; 8], part: &[u8]) -> [u32; 8]
     requires { length part.now % 64 ≡ 0 }
     ensures { result ≡ after v256 start (length part.now / 64) part.now }
 {
     part.chunks_exact(BLOCK).fold(start, compress)
-}
-
-// Whole blocks more, where no block is begun.
-fn whole(h: Hasher, part: &[u8]) -> Hasher
-    requires total_value { h.total % 64 ≡ 0 }
-    requires part_len { length part.now % 64 ≡ 0 }
-    ensures { Grown h part.now result }
-{
-    let block = h.block;
-    Hasher {
-        state: blocks(h.state, part),
-        block,
-        total: h.total.wrapping_add(part.len() as u64),
-    }
 }

@@ -2,7 +2,8 @@
 // Both take every input, and refuse before a byte is written.
 #![tactic(auto)]
 
-ghost use Rattle.std.specs.Prelude.{◌≡◌, suc};
+ghost use Rattle.std.specs.Prelude.{◌≡◌, ◌+◌, ◌≤◌, suc, length};
+ghost use Rattle.words.specs.Bytes.{splice};
 ghost use Rattle.sizes.specs.Sizes.{sized};
 ghost use Rattle.tree.specs.Tree.{Fits, tree_checked, fetched, put_back, fetch_of, put_of, tree_result};
 
@@ -25,6 +26,15 @@ fn checked(tree: &[u8], s: Sizes, leaf: usize, path: &[u8]) -> Result<(), Refusa
     Ok(())
 }
 
+// Not inlined: so the loop over the items keeps less on the stack, of which tests/stack/limits leaves little.
+#[inline(never)]
+fn copy(dst: &mut [u8], at: usize, src: &[u8])
+    requires { at + length src.now ≤ length dst.old }
+    ensures { dst.new ≡ splice dst.old at src.now }
+{
+    words::copy(dst, at, src);
+}
+
 // The items of the path, from tree to path.
 fn copy_out(tree: &[u8], s: Sizes, leaf: usize, path: &mut [u8])
     requires { Fits s leaf tree.now path.old }
@@ -34,7 +44,7 @@ fn copy_out(tree: &[u8], s: Sizes, leaf: usize, path: &mut [u8])
     for k in 0..items {
         let from = s.in_tree(leaf, k);
         let to = from + s.item_len(k);
-        words::copy(path, s.item_at(k), &tree[from..to]);
+        copy(path, s.item_at(k), &tree[from..to]);
     }
 }
 
@@ -47,7 +57,7 @@ fn copy_in(tree: &mut [u8], s: Sizes, leaf: usize, path: &[u8])
     for k in 0..end {
         let from = s.item_at(k);
         let to = from + s.item_len(k);
-        words::copy(tree, s.in_tree(leaf, k), &path[from..to]);
+        copy(tree, s.in_tree(leaf, k), &path[from..to]);
     }
 }
 

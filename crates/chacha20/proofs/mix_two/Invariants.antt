@@ -1,8 +1,8 @@
--- `chacha20::mix_blocks` meets its contract: after each turn the bytes before `at` are combined. Assumes nothing.
+-- `chacha20::mix_two` meets its contract: after each turn the bytes before `at` are combined. Assumes nothing.
 use Rattle.std.proofs.Common.{◌≡◌, ◌+◌, ◌/◌, ◌%◌, ◌^◌, length, min}
 use Rattle.chacha20.specs.ChaCha.{blocks}
 use Rattle.chacha20.proofs.Cipher.{mixed}
-use Rattle.chacha20.proofs.mix_blocks.Given as goal
+use Rattle.chacha20.proofs.mix_two.Given as goal
 
 abbrev pub invariant-loop-at : goal.invariant-loop-at
 invariant-loop-at l =
