@@ -1,4 +1,4 @@
--- Sixty-four places of which no byte is above those of good ones are good. Assumes nothing.
+-- Forty-eight places of which no byte is above those of good ones are good. Assumes nothing.
 use Prim.Native.Nat.{ℕ, ◌+◌, ◌*◌, ◌-◌, ◌≤◌, ◌<◌}
 use mathlib.Core.Path.{◌≡◌, sym, ap, ◌∙◌}
 use mathlib.Core.Bool.{true}

@@ -1,10 +1,10 @@
--- Sixty-four places of body (d) looked at together: no byte of theirs is above the one at its place among sixty-four good ones. Assumes nothing.
+-- Forty-eight places of body (d) looked at together: no byte of theirs is above the one at its place among forty-eight good ones. Assumes nothing.
 use Rattle.std.specs.Prelude.{ℕ, ◌*◌, ◌≤◌, Bool, List, get_or, leb}
 use Rattle.words.specs.Tests.{all}
 use Rattle.sizes.specs.Sizes.{place_len}
 
 abbrev pub together : ℕ
-together = 64
+together = 48
 
 abbrev pub together_len : ℕ
 together_len = place_len * together

@@ -1,4 +1,4 @@
-// When body (d) is good. Sixty-four places at once are held to the highest good place, byte by byte, which the compiler does sixteen bytes at a step; where a
+// When body (d) is good. Forty-eight places at once are held to the highest good place, byte by byte, which the compiler does sixteen bytes at a step; where a
 // byte is above, each place is looked at by itself.
 ghost use Rattle.std.specs.Prelude.{◌≡◌, true, ◌+◌, ◌*◌, ◌≤◌, ◌<◌, length};
 ghost use Rattle.words.specs.Bytes.{part};
@@ -9,7 +9,7 @@ ghost use Rattle.desk.specs.Together.{together, together_len, none_above};
 
 use super::leaves::Leaves;
 
-const TOGETHER: usize = 64;
+const TOGETHER: usize = 48;
 
 const BYTES: usize = super::PLACE * TOGETHER;
 
@@ -22,7 +22,7 @@ fn place_good(d: &[u8], i: usize, most: Leaves) -> bool
     most.has(words::get16(d, at)) & (d[at + super::MARK_IN] <= 1)
 }
 
-// The highest place, with the last leaf and a mark, sixty-four times: so often that the compiler keeps the loop over them. That they are good places is
+// The highest place, with the last leaf and a mark, forty-eight times: so often that the compiler keeps the loop over them. That they are good places is
 // all that is asked of them: lower ones would send more places to be looked at one by one, and no answer would change.
 fn highest(most: Leaves) -> [u8; BYTES]
     ensures { places_good most together result ≡ true }
@@ -47,7 +47,7 @@ fn none_above(d: &[u8], top: &[u8; BYTES]) -> bool
     good
 }
 
-// Whether sixty-four places from `i` on are among the first `n`, and none of their bytes is above.
+// Whether forty-eight places from `i` on are among the first `n`, and none of their bytes is above.
 fn low(d: &[u8], i: usize, n: usize, top: &[u8; BYTES]) -> bool
     requires { (d_len n ≤ length d.now) × ((i < n) × (length top.now ≡ together_len)) }
     ensures { result ≡ true → (i + together ≤ n) × (none_above (part d.now (place_len * i) together_len) top.now ≡ true) }
@@ -60,7 +60,7 @@ fn low(d: &[u8], i: usize, n: usize, top: &[u8; BYTES]) -> bool
     none_above(&d[a..e], top)
 }
 
-// Whether the first `n` places are good. Not a `for`: the walk goes on by sixty-four places or by one.
+// Whether the first `n` places are good. Not a `for`: the walk goes on by forty-eight places or by one.
 pub fn places_good(d: &[u8], n: usize, most: Leaves) -> bool
     requires { d_len n ≤ length d.now }
     ensures { result ≡ places_good most n d.now }

@@ -1,4 +1,4 @@
--- `desk::positions::low` meets its contract: there are sixty-four places, and their bytes were compared. Assumes nothing.
+-- `desk::positions::low` meets its contract: there are forty-eight places, and their bytes were compared. Assumes nothing.
 use Prim.Native.Nat.{ℕ, ◌+◌, ◌*◌, ◌-◌}
 use mathlib.Core.Path.{◌≡◌, sym, ap, ◌∙◌}
 use native.Mathlib.Omega.{arith}

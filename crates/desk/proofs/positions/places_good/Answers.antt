@@ -1,4 +1,4 @@
--- `desk::positions::places_good` meets its contract: the first i places are good; sixty-four more that are low, or one more, keeps that; the first other one decides. Assumes nothing.
+-- `desk::positions::places_good` meets its contract: the first i places are good; forty-eight more that are low, or one more, keeps that; the first other one decides. Assumes nothing.
 use mathlib.Core.Path.{sym, ◌∙◌}
 use borrow.Author.Rules.{rules}
 use Rattle.words.proofs.Tests.{all_none, all_more, all-fails, all_end}

@@ -1,4 +1,4 @@
--- `desk::positions::places_good` meets its contract: the first i places are good; sixty-four more that are low, or one more, keeps that; the first other one decides. Assumes nothing.
+-- `desk::positions::places_good` meets its contract: the first i places are good; forty-eight more that are low, or one more, keeps that; the first other one decides. Assumes nothing.
 use Prim.Native.Nat.{◌≤◌, ◌-◌}
 use mathlib.Core.Path.{◌≡◌}
 use mathlib.Core.Bool.{true}
