@@ -271,19 +271,6 @@ pub fn put_contents(dst: &mut [u8], h: Shape)
     put_pair(dst, 4 * PAIR, h.e_at(), h.e_len());
 }
 
-// Whether two slices of one length are the same. Not by `==`: that is a call, and tests/stack/limits leaves no byte for its return address.
-fn agree(a: &[u8], b: &[u8]) -> bool
-    requires { length a.now ≡ length b.now }
-    ensures { result ≡ same a.now b.now }
-{
-    for i in 0..a.len() {
-        if a[i] != b[i] {
-            return false;
-        }
-    }
-    true
-}
-
 // Whether the contents are the computed ones.
 fn contents_good(desk: &[u8], h: Shape) -> bool
     requires { contents_len ≤ length desk.now }
@@ -291,7 +278,7 @@ fn contents_good(desk: &[u8], h: Shape) -> bool
 {
     let mut due = [0u8; CONTENTS];
     put_contents(&mut due, h);
-    agree(&desk[..CONTENTS], &due)
+    words::same(&desk[..CONTENTS], &due)
 }
 
 // Whether body (a) is good.

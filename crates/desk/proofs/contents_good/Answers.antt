@@ -1,6 +1,5 @@
 -- `desk::contents_good` meets its contract: the array holds the computed contents and nothing else. Assumes nothing.
 use mathlib.Core.Path.{sym, ap, ◌∙◌}
-use native.Mathlib.Omega.{arith}
 use lib.ListN.{take}
 use lib.Seq.{length-take-le}
 use Rattle.words.specs.Bytes.{zeros, same}
@@ -10,13 +9,10 @@ use Rattle.desk.specs.Layout.{contents}
 use Rattle.desk.proofs.Lengths.{length-contents}
 use Rattle.desk.proofs.contents_good.Goals as goal
 
-pub slice_bounds-agree-end : goal.slice_bounds-agree-end
-slice_bounds-agree-end c = sym (length-take-le contents_len c.args.desk.now c.requires)
-
-pub agree-requires : goal.agree-requires
-agree-requires c = omega (arith, length-take-le contents_len c.args.desk.now c.requires, c.put_contents.auto.dst)
+pub slice_bounds-same-end : goal.slice_bounds-same-end
+slice_bounds-same-end c = sym (length-take-le contents_len c.args.desk.now c.requires)
 
 pub returns : goal.returns
 returns c =
     let a = c.args in
-    c.agree.ensures ∙ ap (same (take contents_len a.desk.now)) (c.put_contents.ensures ∙ splice-whole (zeros contents_len) (contents a.h) (length-contents a.h))
+    c.same.ensures ∙ ap (same (take contents_len a.desk.now)) (c.put_contents.ensures ∙ splice-whole (zeros contents_len) (contents a.h) (length-contents a.h))
