@@ -2,7 +2,7 @@
 use mathlib.Core.Path.{◌≡◌, refl, sym, ap, ◌∙◌}
 use mathlib.Core.List.{List, [], ◌∷◌, ◌++◌}
 use Prim.Native.Nat.{ℕ, zero, suc, ◌+◌, ◌-◌, ◌*◌, ◌/◌, ◌%◌, ◌^◌, ◌≤◌, ◌<◌}
-use native.Mathlib.Nat.{zero-add, add-zero, suc-add, mul_comm, mul_assoc, pow-suc, div-div-eq-div-mul}
+use native.Mathlib.Nat.{zero-add, add-zero, suc-add, zero-mul, mul_comm, mul_assoc, pow-suc, div-div-eq-div-mul}
 use native.Mathlib.Numerals.{add-one}
 use native.Mathlib.Omega.{arith}
 use lib.ListN.{length, get_or, drop, length-append}
@@ -135,6 +135,12 @@ big_bytes_of-wrap (suc n) x q =
     let d : (x + q * 256 ^ suc n) / 256 ≡ x / 256 + q * 256 ^ n = omega arith in
     let m : (x + q * 256 ^ suc n) % 256 ≡ x % 256 = omega arith in
     rw (d, m, big_bytes_of-wrap n (x / 256) q)
+
+-- four bytes, written out
+pub big-four : (xs : List ℕ) (i : ℕ) {x y z w : ℕ} → x ≡ get_or xs i 0 → y ≡ get_or xs (i + 1) 0 → z ≡ get_or xs (i + 2) 0 → w ≡ get_or xs (i + 3) 0
+    → ((x * 256 + y) * 256 + z) * 256 + w ≡ big_number 4 xs i
+unfolding big_number
+big-four xs i p q r s = simp (p, q, r, s, zero-mul, zero-add, add-zero)
 
 -- in a part
 pub big_number-part : (n : ℕ) (xs : List ℕ) (a m b : ℕ) → b + n ≤ m → big_number n (part xs a m) b ≡ big_number n xs (a + b)

@@ -18,6 +18,14 @@ fn array_at<const N: usize>(s: &[u8], at: usize) -> [u8; N]
     bytes
 }
 
+// The bytes of a number into `s` from `at` on. So few that the compiler calls nothing for them.
+fn put_array<const N: usize>(s: &mut [u8], at: usize, bytes: &[u8; N])
+    requires { at + N ≤ length s.old }
+    ensures { s.new ≡ splice s.old at bytes.now }
+{
+    s[at..at + N].copy_from_slice(bytes);
+}
+
 // The number in the two bytes of `s` from `at` on.
 pub fn get16(s: &[u8], at: usize) -> u16
     requires { at + 2 ≤ length s.now }
@@ -58,21 +66,21 @@ pub fn put16(s: &mut [u8], at: usize, x: u16)
     requires { at + 2 ≤ length s.old }
     ensures { s.new ≡ splice s.old at (bytes_of 2 x) }
 {
-    copy(s, at, &x.to_le_bytes());
+    put_array(s, at, &x.to_le_bytes());
 }
 
 pub fn put32(s: &mut [u8], at: usize, x: u32)
     requires { at + 4 ≤ length s.old }
     ensures { s.new ≡ splice s.old at (bytes_of 4 x) }
 {
-    copy(s, at, &x.to_le_bytes());
+    put_array(s, at, &x.to_le_bytes());
 }
 
 pub fn put64(s: &mut [u8], at: usize, x: u64)
     requires { at + 8 ≤ length s.old }
     ensures { s.new ≡ splice s.old at (bytes_of 8 x) }
 {
-    copy(s, at, &x.to_le_bytes());
+    put_array(s, at, &x.to_le_bytes());
 }
 
 // The number in four bytes, the highest first: a word of the digest.
@@ -83,27 +91,41 @@ pub fn get_big32(s: &[u8], at: usize) -> u32
     u32::from_be_bytes(array_at(s, at))
 }
 
-// `x` in four bytes, the highest first, from `at` on.
+// `x` in `n` bytes, the highest first, from `at` on: the lowest first, turned round.
+pub fn put_big(s: &mut [u8], at: usize, n: usize, x: u64)
+    requires { at + n ≤ length s.old }
+    ensures { s.new ≡ splice s.old at (big_bytes_of n x) }
+{
+    put_number(s, at, n, x);
+    s[at..at + n].reverse();
+}
+
+// `x` in four bytes, the highest first, from `at` on: a word of the digest.
 pub fn put_big32(s: &mut [u8], at: usize, x: u32)
     requires { at + 4 ≤ length s.old }
     ensures { s.new ≡ splice s.old at (big_bytes_of 4 x) }
 {
-    copy(s, at, &x.to_be_bytes());
+    let word = x.to_be_bytes();
+    put_array(s, at, &word);
 }
 
+// The same in eight bytes: a length in bits.
 pub fn put_big64(s: &mut [u8], at: usize, x: u64)
     requires { at + 8 ≤ length s.old }
     ensures { s.new ≡ splice s.old at (big_bytes_of 8 x) }
 {
-    copy(s, at, &x.to_be_bytes());
+    let length = x.to_be_bytes();
+    put_array(s, at, &length);
 }
 
-// All of `src` into `dst` from `at` on.
+// All of `src` into `dst` from `at` on. By places and not by `copy_from_slice`, whose code calls `memmove`: the archive for C needs no such name from outside.
 pub fn copy(dst: &mut [u8], at: usize, src: &[u8])
     requires { at + length src.now ≤ length dst.old }
     ensures { dst.new ≡ splice dst.old at src.now }
 {
-    dst[at..at + src.len()].copy_from_slice(src);
+    for (i, byte) in src.iter().enumerate() {
+        dst[at + i] = *byte;
+    }
 }
 
 // `n` zeros into `dst` from `at` on.

@@ -5,4 +5,4 @@ use Rattle.words.proofs.Numbers.{low_first-is}
 use Rattle.words.proofs.put16.Goals as goal
 
 pub returns : goal.returns
-returns c = c.copy.ensures ∙ ap (splice c.args.s.now c.args.at) (c.to_le_bytes.ensures ∙ low_first-is 2 c.args.x)
+returns c = c.put_array.ensures ∙ ap (splice c.args.s.now c.args.at) (c.to_le_bytes.ensures ∙ low_first-is 2 c.args.x)

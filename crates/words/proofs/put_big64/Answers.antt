@@ -5,4 +5,4 @@ use Rattle.words.proofs.Numbers.{high_first-is}
 use Rattle.words.proofs.put_big64.Goals as goal
 
 pub returns : goal.returns
-returns c = c.copy.ensures ∙ ap (splice c.args.s.now c.args.at) (c.to_be_bytes.ensures ∙ high_first-is 8 c.args.x)
+returns c = c.put_array.ensures ∙ ap (splice c.args.s.now c.args.at) (c.to_be_bytes-length.ensures ∙ high_first-is 8 c.args.x)
