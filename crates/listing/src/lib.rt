@@ -10,6 +10,7 @@ ghost use Rattle.listing.specs.Listing as spec;
 ghost use Rattle.listing.specs.Listing.{Wrote, most_decimal, most_request, most_row, kind_text, leaf_text, answer_text, request_text, row_of, format_row};
 ghost use Rattle.listing.specs.Writer.{Adds, HasRoom};
 
+pub use crate::writer::MOST_DECIMAL;
 use crate::writer::Writer;
 use desk::Kind;
 use sizes::Refusal;

@@ -82,6 +82,9 @@ impl Sizes {
 
     pub const DIGEST: usize = 32;
 
+    // What an inner item has beside its slots.
+    pub const HEADER: usize = Self::COUNTER + Self::FLAGS + 2 * Self::DIGEST;
+
     // The sizes that two bytes name, in range or not.
     pub fn of(height: u8, slots: u8) -> Self
         ensures { result ≡ spec.sized height slots }
@@ -110,7 +113,7 @@ impl Sizes {
         power(self.height)
     }
 
-    // The length of a leaf's item, and of an inner one, which has flags and digests behind.
+    // The length of a leaf's item, and of an inner one.
     pub fn leaf_len(self) -> usize
         requires { spec.InRange self }
         ensures { result ≡ spec.leaf_len self }
@@ -122,7 +125,7 @@ impl Sizes {
         requires { spec.InRange self }
         ensures { result ≡ spec.inner_len self }
     {
-        self.leaf_len() + Self::FLAGS + 2 * Self::DIGEST
+        Self::HEADER + Self::SLOT * self.slots
     }
 
     // The length of the item at level `k`.

@@ -5,7 +5,10 @@ ghost use Rattle.text.specs.Fronts.{number_by, number_of, spaced, values, taken_
 
 use crate::Number;
 
+// The bytes of the first digit and of the last.
 pub const ZERO: u8 = 48;
+
+pub const NINE: u8 = 57;
 
 pub const TEN: u64 = 10;
 
