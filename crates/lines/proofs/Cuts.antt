@@ -11,6 +11,8 @@ use Rattle.words.specs.Bytes.{part}
 use Rattle.lines.specs.declared.Directive.{Directive}
 use Rattle.std.specs.Prelude.{Option, Some, None}
 use Rattle.std.specs.Option.{is_some}
+use borrow.Author.Tests.{ne_eqb}
+use Rattle.lines.specs.Words.{hash}
 use Rattle.lines.specs.Line.{directive_at, is_directive, until_directive, cut, cut_of}
 use Rattle.lines.proofs.Tails.{tail-is}
 
@@ -65,6 +67,12 @@ module _ (xs : List ℕ) (i : ℕ) (p : Passed xs i) (h : i < length xs) (d : Op
   found f =
       let u : until_directive xs ≡ i = p.so_far ∙ ap (λ (n : ℕ). i + n) (until_stop xs i h (ap is_directive (sym at_place) ∙ f)) ∙ omega arith in
       ap (cut i) at_place ∙ here xs i u
+
+-- a byte that is no hash begins none
+pub pass : (xs : List ℕ) (i : ℕ) → Passed xs i → i < length xs → (get_or xs i 0 ≡ hash → ⊥) → Passed xs (i + 1)
+pass xs i p h e =
+    let none : directive_at (get_or xs i 0 ∷ drop (suc i) xs) ≡ None = rw (ne_eqb (get_or xs i 0) hash e) refl in
+    turn xs i p h None (sym (ap directive_at (tail-is xs i (omega arith)) ∙ ap directive_at (drop-cons xs i 0 h) ∙ none)) refl
 
 pub end : (xs : List ℕ) (i : ℕ) → Passed xs i → length xs ≤ i → cut i None ≡ cut_of xs
 end xs i p h =

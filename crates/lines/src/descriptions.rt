@@ -22,7 +22,7 @@ fn trimmed(s: &[u8], n: usize) -> usize
 fn hyphen_len(s: &[u8]) -> usize
     ensures { (result ≡ hyphen_len s.now) × (result ≤ length s.now) }
 {
-    match s.strip_prefix(b"-") {
+    match s.strip_prefix(&[crate::HYPHEN]) {
         Some(rest) => 1 + fronts::spaces(rest),
         None => 0,
     }

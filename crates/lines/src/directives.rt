@@ -49,7 +49,7 @@ fn directive_word(s: &[u8]) -> Option<Directive>
 fn directive_at(s: &[u8]) -> Option<Directive>
     ensures { result ≡ directive_at s.now }
 {
-    let rest = s.strip_prefix(b"#")?;
+    let rest = s.strip_prefix(&[crate::HASH])?;
     let n = fronts::spaces(rest);
     directive_word(&rest[n..])
 }
@@ -58,10 +58,13 @@ fn directive_at(s: &[u8]) -> Option<Directive>
 pub fn first_directive(s: &[u8]) -> Cut
     ensures { (result ≡ cut_of s.now) × (result.at ≤ length s.now) }
 {
-    for at in 0..s.len() {
-        let directive = directive_at(&s[at..]);
-        if directive.is_some() {
-            return Cut { at, directive };
+    for (at, byte) in s.iter().enumerate() {
+        // nearly every byte begins none
+        if *byte == crate::HASH {
+            let directive = directive_at(&s[at..]);
+            if directive.is_some() {
+                return Cut { at, directive };
+            }
         }
     }
     Cut {

@@ -10,6 +10,11 @@ ghost use Rattle.lines.specs.Line.{test_after, plan_after, line_of, Inside};
 
 use verdicts::Verdict;
 
+// The bytes before a directive and before a name.
+pub const HASH: u8 = 35;
+
+pub const HYPHEN: u8 = 45;
+
 // The first number that is larger than any range is long; it stands for all that are larger.
 pub const MOST_COUNT: u64 = 65536;
 
@@ -95,7 +100,7 @@ pub fn read(chapter: u8, line: &[u8]) -> Line
     if line == b"TAP version 13".as_slice() {
         return Line::Version;
     }
-    if line.starts_with(b"#") {
+    if line.starts_with(&[HASH]) {
         return Line::Comment;
     }
     let ok: &[u8] = b"ok ";
