@@ -9,7 +9,7 @@ use lib.ListN.{length, drop, length-drop}
 use lib.Seq.{drop-drop}
 use lib.Dec.{eqb}
 use borrow.Author.Tests.{eqb-true, lt-ltb, le-ltb}
-use Rattle.std.specs.Bool.{then_some}
+use Rattle.std.specs.Prelude.{Result, is_ok}
 use Rattle.words.specs.Numbers.{number}
 use Rattle.words.specs.Tests.{all}
 use Rattle.words.proofs.Numbers.{number-drop}
@@ -32,7 +32,7 @@ use Rattle.items.specs.Items.{Carries}
 use Rattle.items.specs.Way.{Reached}
 use Rattle.items.specs.Real.{real}
 use Rattle.opening.specs.Opening.{is_id, stash_slots, view_of, digest_fits, flags_fit, found, each_fits, is_there, slots_fit, genuine}
-use Rattle.opening.specs.Walk.{OpenDesk, Unsealed, Opens}
+use Rattle.opening.specs.Walk.{OpenDesk, Unsealed, count_in, Opens}
 use Rattle.opening.proofs.Tests.{no_true}
 
 -- ---- the stash of such a desk
@@ -133,9 +133,9 @@ reached-same v path m n r s =
     (λ k. omega arith))
 
 -- what steps 1 and 2 hand back, of whether all checks pass and of the number of reachable items
-pub opens-given : (desk path w : List ℕ) (passed : Bool) (n : ℕ) → passed ≡ genuine real desk path → Reached (view_of desk) path n → Unsealed (view_of desk) path n w
-    → Opens desk path w (then_some passed n)
-opens-given desk path w true n e r u =
-    record { good = e; count = r; opened = λ m s. rw (reached-same (view_of desk) path n m r s) at u }
-opens-given desk path w false n e r u =
-    record { good = e; count = tt; opened = λ m s. rw (reached-same (view_of desk) path n m r s) at u }
+pub opens-given : (desk path w : List ℕ) (o : Result ℕ ℕ) (v : View) → v ≡ view_of desk → is_ok o ≡ genuine real desk path → Reached v path (count_in o) → Unsealed v path (count_in o) w
+    → Opens desk path w o
+opens-given desk path w o v e p r u =
+    let reached = subst (λ (v : View). Reached v path (count_in o)) e r in
+    let unsealed = subst (λ (v : View). Unsealed v path (count_in o) w) e u in
+    record { good = p; count = reached; opened = λ m s. rw (reached-same (view_of desk) path (count_in o) m reached s) at unsealed }

@@ -1,5 +1,5 @@
 -- The checks of the slots as a walk: slot after slot, with the blocks met so far, the stash first. Assumes nothing.
-use Rattle.std.specs.Prelude.{ℕ, suc, ◌≤◌, ◌<◌, ◌≡◌, Bool, true, not, Option, is_some, IfSome, ◌&&◌, ◌||◌, List, [], ◌∷◌, ◌++◌, length, get_or, eqb}
+use Rattle.std.specs.Prelude.{ℕ, suc, ◌≤◌, ◌<◌, ◌≡◌, Bool, true, not, Result, Ok, Err, is_ok, ◌&&◌, ◌||◌, List, [], ◌∷◌, ◌++◌, length, get_or, eqb}
 use Rattle.sizes.specs.Sizes.{most_ids, InRange, leaves, most_path}
 use Rattle.bags.specs.Bags.{cnt, those}
 use Rattle.slots.specs.Slots.{Block, is_used}
@@ -51,8 +51,13 @@ pub record Walked (desk : List ℕ) (k : ℕ) (bs : List Block) (before after : 
   pub answer : (met : List Block) → Seen before met → r ≡ walk desk k met bs
   pub met : (met : List Block) → Seen before met → r ≡ true → Seen after (met ++ those is_used bs)
 
--- steps 1 and 2, whole: the number of reachable items, if all checks pass; and the working copy that they leave
-pub record Opens (desk path w : List ℕ) (o : Option ℕ) : Type 0 where
-  pub good : is_some o ≡ genuine real desk path
-  pub count : IfSome o (λ n. Reached (view_of desk) path n)
+-- the number of reachable items, whether all checks pass or one fails
+abbrev pub count_in : Result ℕ ℕ → ℕ
+count_in (Ok n) = n
+count_in (Err n) = n
+
+-- steps 1 and 2, whole: the number of reachable items, Ok exactly if all checks pass; and the working copy that they leave
+pub record Opens (desk path w : List ℕ) (o : Result ℕ ℕ) : Type 0 where
+  pub good : is_ok o ≡ genuine real desk path
+  pub count : Reached (view_of desk) path (count_in o)
   pub opened : (n : ℕ) → Reached (view_of desk) path n → Unsealed (view_of desk) path n w

@@ -59,8 +59,9 @@ fn open_slots(w: &mut [u8], path: &[u8], v: View, n: usize)
     }
 }
 
-// Steps 1 and 2, whole: how many items are reachable, if all checks pass. The opened slots are left in the lent working copy.
-pub fn open_path(desk: &[u8], path: &[u8], v: View, w: &mut [u8]) -> Option<usize>
+// Steps 1 and 2, whole: how many items are reachable, in Ok where all checks pass, and in Err where one fails. The opened slots are left in the lent
+// working copy.
+pub fn open_path(desk: &[u8], path: &[u8], v: View, w: &mut [u8]) -> Result<usize, usize>
     requires open_desk { OpenDesk desk.now × ((v ≡ view_of desk.now) × (length path.now ≡ path_len v.sizes)) }
     requires w_len { length w.old ≡ most_path }
     ensures { Opens desk.now path.now w.new result }
@@ -70,5 +71,5 @@ pub fn open_path(desk: &[u8], path: &[u8], v: View, w: &mut [u8]) -> Option<usiz
     let f = checks::flags_good(path, v, n);
     open_slots(w, path, v, n);
     let s = table::slots_good(desk, w, v, n);
-    (d & f & s).then_some(n)
+    if d & f & s { Ok(n) } else { Err(n) }
 }

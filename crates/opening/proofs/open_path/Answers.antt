@@ -1,10 +1,7 @@
 -- `opening::open_path` meets its contract: the three tests are the checks of the definition. Assumes nothing.
-use mathlib.Core.Path.{subst}
+use mathlib.Core.Path.{sym, ◌∙◌}
 use native.Mathlib.Omega.{arith}
-use Rattle.items.specs.declared.View.{View}
 use Rattle.items.specs.Items.{Carries}
-use Rattle.items.specs.Way.{Reached}
-use Rattle.opening.specs.Walk.{Unsealed}
 use Rattle.opening.proofs.Open.{opens-given, view-range, view-leaf, whole-genuine}
 use Rattle.opening.proofs.open_path.Goals as goal
 
@@ -31,13 +28,16 @@ open_slots-requires c =
 pub slots_good-s-requires : goal.slots_good-s-requires
 slots_good-s-requires c = let p = c.requires in record { open_desk = (p.open_desk.0, (p.open_desk.1.0, c.reach-n.ensures.most)); w_len = c.open_slots.ensures.size }
 
-pub returns : goal.returns
-returns c =
+pub returns-then-d-f : goal.returns-then-d-f
+returns-then-d-f c =
     let a = c.args in
-    let e = c.requires.open_desk.1.0 in
-    let r = c.reach-n.ensures in
-    let u = c.open_slots.ensures in
-    let passed = whole-genuine a.desk.now a.path.now c.digests_good-d.result c.flags_good-f.result c.slots_good-s.result a.v e c.digests_good-d.ensures c.flags_good-f.ensures (c.slots_good-s.ensures a.path.now r u) in
-    rw c.then_some.ensures
-    (opens-given a.desk.now a.path.now c.open_slots.new.w _ c.reach-n.result passed (subst (λ (v : View). Reached v a.path.now c.reach-n.result) e r)
-    (subst (λ (v : View). Unsealed v a.path.now c.reach-n.result c.open_slots.new.w) e u))
+    let p = c.requires.open_desk.1.0 in
+    let passed = whole-genuine a.desk.now a.path.now c.digests_good-d.result c.flags_good-f.result c.slots_good-s.result a.v p c.digests_good-d.ensures c.flags_good-f.ensures (c.slots_good-s.ensures a.path.now c.reach-n.ensures c.open_slots.ensures) in
+    opens-given a.desk.now a.path.now c.open_slots.new.w _ a.v p (sym c.if-d-f.true ∙ passed) c.reach-n.ensures c.open_slots.ensures
+
+pub returns-else-d-f : goal.returns-else-d-f
+returns-else-d-f c =
+    let a = c.args in
+    let p = c.requires.open_desk.1.0 in
+    let passed = whole-genuine a.desk.now a.path.now c.digests_good-d.result c.flags_good-f.result c.slots_good-s.result a.v p c.digests_good-d.ensures c.flags_good-f.ensures (c.slots_good-s.ensures a.path.now c.reach-n.ensures c.open_slots.ensures) in
+    opens-given a.desk.now a.path.now c.open_slots.new.w _ a.v p (sym c.if-d-f.false ∙ passed) c.reach-n.ensures c.open_slots.ensures

@@ -24,25 +24,25 @@ is_worn-requires c =
     let v = c.view-v in
     let z : length c.args.path.now ≡ path_len v.result.sizes = c.requires.path_len.0 ∙ ap (λ (x : View). path_len x.sizes) (sym v.ensures) in (
       record { range = view-range c.args.desk.now c.requires.open_desk.0 v.result v.ensures; room = omega (arith, z) },
-      subst (λ (x : View). Reached x c.args.path.now c.in-Some.n) (sym v.ensures) c.in-Some.ensures.count,
+      subst (λ (x : View). Reached x c.args.path.now c.in-Ok.n) (sym v.ensures) c.in-Ok.ensures.count,
     )
 
 pub returns-then-is_worn : goal.returns-then-is_worn
 returns-then-is_worn c =
     let a = c.args in
     let v = c.view-v in
-    rw c.from-then-is_worn.ensures (path-worn a.desk.now a.path.now a.«record».now (sym c.in-Some.ensures.good) (sym (c.is_worn.ensures ∙ worn-is a.desk.now a.path.now v.result v.ensures) ∙ c.if-is_worn.true))
+    rw c.from-then-is_worn.ensures (path-worn a.desk.now a.path.now a.«record».now (sym c.in-Ok.ensures.good) (sym (c.is_worn.ensures ∙ worn-is a.desk.now a.path.now v.result v.ensures) ∙ c.if-is_worn.true))
 
 pub place-requires : goal.place-requires
 place-requires c =
-    let o = c.in-Some.ensures in (
+    let o = c.in-Ok.ensures in (
       record {
         good = c.requires.open_desk.0;
         new_leaf_low = c.requires.open_desk.1;
         view = c.view-v.ensures;
         size = c.requires.path_len.0;
         reached = o.count;
-        unsealed = o.opened c.in-Some.n o.count;
+        unsealed = o.opened c.in-Ok.n o.count;
         checks = sym o.good;
       },
       c.requires.path_len.1,
@@ -53,4 +53,4 @@ returns c =
     let a = c.args in
     let v = c.view-v in
     c.place.ensures
-    ∙ path-passed a.desk.now a.path.now a.«record».now (sym c.in-Some.ensures.good) (sym (c.is_worn.ensures ∙ worn-is a.desk.now a.path.now v.result v.ensures) ∙ c.if-is_worn.false)
+    ∙ path-passed a.desk.now a.path.now a.«record».now (sym c.in-Ok.ensures.good) (sym (c.is_worn.ensures ∙ worn-is a.desk.now a.path.now v.result v.ensures) ∙ c.if-is_worn.false)
