@@ -4,8 +4,9 @@ use mathlib.Core.Path.{◌≡◌, refl, sym, ap, ap₂, ◌∙◌}
 use mathlib.Core.List.{List, [], ◌∷◌, ◌++◌}
 use mathlib.Core.Logic.{◌⊎◌, inl, inr}
 use native.Mathlib.Omega.{arith}
-use lib.ListN.{length, take, drop, get_or, length-append, length-drop}
-use lib.Seq.{get_or-drop}
+use native.Mathlib.Numerals.{add-one}
+use lib.ListN.{length, take, drop, get_or, length-append, length-drop, drop_of_length-le}
+use lib.Seq.{drop-cons, get_or-drop}
 use lib.Dec.{eqb}
 use borrow.Author.Tests.{eq-eqb, ne_eqb}
 use Rattle.std.proofs.Math.Seq.{drop-append_seam}
@@ -124,6 +125,28 @@ pick-end h (k ∷ hs) bank [] e = refl
 pick-end h (k ∷ hs) bank (p ∷ ps) (inl e) = cc
 pick-end h (k ∷ hs) bank (p ∷ ps) (inr e) = cc
 
+-- what is left after i places
+abbrev pub left_of : ℕ → List ℕ → List ℕ → List ℕ → ℕ → List Block
+left_of h hs bank ps i = pick h (drop i hs) (blocks_at bank (drop i ps))
+
+module _ (h : ℕ) (hs bank ps : List ℕ) (i : ℕ) (k : i < length hs) (m : i < length ps) where
+  pub left-hit : get_or hs i 0 ≡ h → left_of h hs bank ps i ≡ block_in bank (get_or ps i 0) ∷ left_of h hs bank ps (i + 1)
+  unfolding pick
+  left-hit e = rw (drop-cons hs i 0 k, drop-cons ps i 0 m, eq-eqb (get_or hs i 0) h e, add-one i)
+
+  pub left-miss : (get_or hs i 0 ≡ h → ⊥) → left_of h hs bank ps i ≡ left_of h hs bank ps (i + 1)
+  unfolding pick
+  left-miss e = rw (drop-cons hs i 0 k, drop-cons ps i 0 m, ne_eqb (get_or hs i 0) h e, add-one i)
+
+pick-nil : (h : ℕ) (ks : List ℕ) → pick {A = Block} h ks [] ≡ []
+unfolding pick
+pick-nil h [] = refl
+pick-nil h (k ∷ ks) = refl
+
+pub left_end : (h : ℕ) (hs bank ps : List ℕ) (i : ℕ) → length ps ≤ i → left_of h hs bank ps i ≡ []
+left_end h hs bank ps i e =
+    ap (λ (l : List ℕ). pick h (drop i hs) (blocks_at bank l)) (drop_of_length-le ps e) ∙ pick-nil h (drop i hs)
+
 -- a slot is laid: what is left begins with its block
 pub laid-turn : (dst next whole : List ℕ) (k : ℕ) (b : Block) (left right : List Block) → left ≡ b ∷ right → Fits record_len b → k + slot_len ≤ length dst
     → next ≡ splice dst k (slot_bytes b) → splice dst k (slots_bytes left) ≡ whole → splice next (k + slot_len) (slots_bytes right) ≡ whole
@@ -145,12 +168,15 @@ pick-fit h [] bs f = tt
 pick-fit h (k ∷ ks) [] f = tt
 pick-fit h (k ∷ ks) (b ∷ bs) f = by_cases (eqb k h) (λ e. rw e (f.0, pick-fit h ks bs f.1)) (λ e. rw e (pick-fit h ks bs f.1))
 
+pub filled_fit : (dst mid end : List ℕ) (a room k n : ℕ) (bs : List Block) → AllFit record_len bs → a + slot_len * room ≤ length dst → length bs ≤ room
+    → k ≡ a + slot_len * length bs → n ≡ a + slot_len * room - k → mid ≡ splice dst a (slots_bytes bs) → end ≡ splice mid k (zeros n) → end ≡ splice dst a (slots_with room bs)
+filled_fit dst mid end a room k n bs fit fits few e z l c =
+    let m : n ≡ slot_len * (room - length bs) = omega arith in
+    c ∙ ap₂ (λ (x : List ℕ) (i : ℕ). splice x i (zeros n)) l e ∙ ap (λ (i : ℕ). splice (splice dst a (slots_bytes bs)) (a + slot_len * length bs) (zeros i)) m
+    ∙ splice-next dst a (slots_bytes bs) (zeros (slot_len * (room - length bs))) (slot_len * length bs) (length-slots record_len bs fit) (omega arith)
+
 pub filled : (dst mid end : List ℕ) (a room h k n : ℕ) (hs bank ps : List ℕ) → Bytes bank → Inside bank ps → a + slot_len * room ≤ length dst
     → length (pick h hs (blocks_at bank ps)) ≤ room → k ≡ a + slot_len * length (pick h hs (blocks_at bank ps)) → n ≡ a + slot_len * room - k
     → mid ≡ splice dst a (slots_bytes (pick h hs (blocks_at bank ps))) → end ≡ splice mid k (zeros n) → end ≡ splice dst a (slots_with room (pick h hs (blocks_at bank ps)))
 filled dst mid end a room h k n hs bank ps b f fits few e z l c =
-    let bs = pick h hs (blocks_at bank ps) in
-    let m : n ≡ slot_len * (room - length bs) = omega arith in
-    c ∙ ap₂ (λ (x : List ℕ) (i : ℕ). splice x i (zeros n)) l e ∙ ap (λ (i : ℕ). splice (splice dst a (slots_bytes bs)) (a + slot_len * length bs) (zeros i)) m
-    ∙ splice-next dst a (slots_bytes bs) (zeros (slot_len * (room - length bs))) (slot_len * length bs)
-    (length-slots record_len bs (pick-fit h hs (blocks_at bank ps) (fit_at bank ps b f))) (omega arith)
+    let bs = pick h hs (blocks_at bank ps) in filled_fit dst mid end a room k n bs (pick-fit h hs (blocks_at bank ps) (fit_at bank ps b f)) fits few e z l c

@@ -18,6 +18,13 @@ pub fn copy_slot(dst: &mut [u8], at: usize, src: &[u8])
     words::copy(dst, at, &slot);
 }
 
+// The slice itself. That each of its bytes is below 256 a proof knows of a parameter, and not of a struct's field.
+fn as_bytes(s: &[u8]) -> &[u8]
+    ensures { (result.now ≡ s.now) × Bytes s.now }
+{
+    s
+}
+
 // A plan that is lent: where in the bank each block stands, and the height of the bucket that it goes to. Two arrays, not one of a struct of both:
 // that takes four bytes a block where these take three, 360 in all, and tests/stack/limits leaves finish no room for them.
 #[derive(Clone, Copy, Drop)]
@@ -27,26 +34,27 @@ pub struct Plan<'a> {
     pub at: &'a [u8],
     pub ghost heights: { length places.now ≤ length at.now },
     pub ghost inside: { Inside bank.now places.now },
-    pub ghost bytes: { Bytes bank.now },
 }
 
 impl Plan<'_> {
     ghost use Rattle.std.specs.Prelude.{◌*◌};
     ghost use Rattle.sizes.specs.Sizes.{most_room};
-    ghost use Rattle.slots.specs.Slots.{slots_bytes, slots_with};
+    ghost use Rattle.slots.specs.Slots.{AllFit, slots_bytes, slots_with};
     ghost use Rattle.placing.specs.Plans.{blocks_for};
 
     // Lays the slots whose height is `h` from `a` on, and says where they end.
     fn lay(self, dst: &mut [u8], a: usize, h: u8) -> usize
         requires { a + slot_len * length (blocks_for self h) ≤ length dst.old }
         ensures value { result ≡ a + slot_len * length (blocks_for self.entry h) }
+        ensures fit { AllFit record_len (blocks_for self.entry h) }
         ensures dst_after { dst.new ≡ splice dst.old a (slots_bytes (blocks_for self.entry h)) }
     {
+        let bank = as_bytes(self.bank);
         let mut k = a;
         for (place, height) in self.places.iter().zip(self.at) {
             if *height == h {
                 let from = Sizes::SLOT * usize::from(*place);
-                copy_slot(dst, k, &self.bank[from..]);
+                copy_slot(dst, k, &bank[from..]);
                 k += Sizes::SLOT;
             }
         }
@@ -57,7 +65,8 @@ impl Plan<'_> {
     pub fn fill(self, dst: &mut [u8], a: usize, room: usize, h: u8)
         requires room_in_bounds { (a + slot_len * room ≤ length dst.old) × (room ≤ most_room) }
         requires places_len_bound { length (blocks_for self h) ≤ room }
-        ensures { dst.new ≡ splice dst.old a (slots_with room (blocks_for self.entry h)) }
+        ensures fit { AllFit record_len (blocks_for self.entry h) }
+        ensures dst_after { dst.new ≡ splice dst.old a (slots_with room (blocks_for self.entry h)) }
     {
         let k = self.lay(dst, a, h);
         let n = a + Sizes::SLOT * room - k;

@@ -117,7 +117,6 @@ fn follow(
     let id = opening::id_asked(desk);
     let leaf = request::new_leaf(desk);
     let marked = request::is_there(request::kind_asked(desk), request::was_marked(desk));
-    // Not made in `place`: that a byte is below 256 is known there of no array that a call has filled, and of a slice that is lent it is.
     let plan = Plan {
         bank,
         places: &places[..c.all],
@@ -167,7 +166,7 @@ fn finish_open(desk: &mut [u8], path: &mut [u8], record: &mut [u8]) -> Result<Fi
 {
     let v = opening::view(desk);
     let mut w = [0u8; Sizes::MOST_PATH];
-    let Some(n) = opening::open_path(desk, path, v, &mut w) else {
+    let Ok(n) = opening::open_path(desk, path, v, &mut w) else {
         desk[desk::STATUS] = u8::from(Status::Forged);
         return Err(Refusal::Forged);
     };

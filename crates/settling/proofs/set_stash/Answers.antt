@@ -43,5 +43,5 @@ returns c =
     let p = c.requires in
     let bs = blocks_for a.plan a.h in
     let w = p.whole.0.size in
-    rw (c.fill.ensures, c.put16.ensures, start, room-is, ← p.places_len)
+    rw (c.fill.ensures.dst_after, c.put16.ensures, start, room-is, ← p.places_len)
     (splice-next a.desk.now (e_at (shape_of a.desk.now)) (bytes_of 2 (length bs)) (slots_with (room_of a.desk.now) bs) 2 (length-bytes_of 2 (length bs)) (omega arith))

@@ -23,7 +23,7 @@ slice_bounds-plan-end-2 c = let p = c.requires in simp length-take (omega (arith
 pub invariant_of-plan : goal.invariant_of-plan
 invariant_of-plan c =
     let p = c.requires.planned in
-    record { heights = simp length-take (omega (arith, p.few, c.requires.over_bound)); inside = p.inside; bytes = λ i. omega (arith, c.type_inv.bank i) }
+    record { heights = simp length-take (omega (arith, p.few, c.requires.over_bound)); inside = p.inside }
 
 pub accept-requires : goal.accept-requires
 accept-requires c =

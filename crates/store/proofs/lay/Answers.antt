@@ -4,7 +4,6 @@ use mathlib.Core.Path.{◌≡◌, refl, subst}
 use native.Mathlib.Omega.{arith}
 use Rattle.placing.specs.Plans.{blocks_in}
 use Rattle.placing.specs.Walk.{pick}
-use Rattle.placing.proofs.Laid.{fit_at, pick-fit}
 use Rattle.store.specs.Laying.{Laid}
 use Rattle.store.proofs.Laying.{laid_more, length-with}
 use Rattle.store.proofs.lay.Goals as goal
@@ -23,9 +22,8 @@ loop-k-preserved c =
     let l = c.loop-k in
     let bs = blocks_in a.plan in
     let h = a.s.height - l.k in
-    let fit = pick-fit h a.plan.at.now bs (fit_at a.plan.bank.now a.plan.places.now a.plan.bytes a.plan.inside) in
     laid_more a.s a.plan.at.now bs l.w c.fill.new.dst l.k (c.item_at-a.result + 8) h (omega arith) (omega (arith, c.requires.carries.room)) (omega (arith, c.item_at-a.ensures.is)) refl
-    (length-with a.s.slots (pick h a.plan.at.now bs) fit (c.requires.by_index h (omega arith))) c.fill.ensures l.invariant
+    (length-with a.s.slots (pick h a.plan.at.now bs) c.fill.ensures.fit (c.requires.by_index h (omega arith))) c.fill.ensures.dst_after l.invariant
 
 pub returns : goal.returns
 returns c =

@@ -3,7 +3,7 @@ use Prim.Native.Nat.{ℕ, ◌+◌, ◌*◌, ◌-◌, ◌≤◌}
 use mathlib.Core.Path.{◌≡◌, sym, ap, ap₂, ◌∙◌}
 use mathlib.Core.List.{List, ◌∷◌}
 use native.Mathlib.Omega.{arith}
-use lib.ListN.{length, drop, length-drop}
+use lib.ListN.{length, drop, length-take, length-drop}
 use Rattle.words.specs.Bytes.{part, splice}
 use Rattle.std.proofs.lemmas.Slice.Zip.{either_empty_from_Zip}
 use Rattle.sizes.specs.Sizes.{record_len, slot_len}
@@ -11,7 +11,7 @@ use Rattle.slots.specs.Slots.{Block, block_by, slot_bytes}
 use Rattle.slots.proofs.Blocks.{block-part}
 use Rattle.placing.specs.Walk.{pick}
 use Rattle.placing.specs.Bank.{block_in, blocks_at}
-use Rattle.placing.proofs.Laid.{pick-hit, pick-miss, pick-end, inside-next, fits_in, laid-turn, slots-none}
+use Rattle.placing.proofs.Laid.{pick-hit, pick-miss, pick-end, pick-fit, inside-next, fits_in, fit_at, laid-turn, slots-none}
 use Rattle.placing.proofs.bank.Plan.lay.Goals as goal
 
 pub copy_slot-requires : goal.copy_slot-requires
@@ -25,7 +25,7 @@ copy_slot-requires c =
     ap₂ left e.1 e.0 ∙ pick-hit a.h c.in-Some.height.now c.in-Some.place.now t.b.rest.now a.self.bank.now t.a.rest.now c.if-height-h.true in
     let inside = inside-next a.self.bank.now l.place-iterator.a.rest.now t.a.rest.now c.in-Some.place.now e.0 l.invariant.0 in (
       omega (arith, ap length hit, l.invariant.1, c.requires),
-      omega (arith, length-drop (slot_len * c.from-from.result) a.self.bank.now, inside.0, c.from-from.ensures),
+      rw c.as_bytes-bank.ensures.0 (simp length-take (omega (arith, length-drop (slot_len * c.from-from.result) a.self.bank.now, inside.0, c.from-from.ensures))),
     )
 
 pub loop-place-preserved-then-height-h : goal.loop-place-preserved-then-height-h
@@ -48,7 +48,7 @@ loop-place-preserved-then-height-h c =
       inside.1,
       omega (arith, ap length hit, l.invariant.1),
       laid-turn l.dst c.copy_slot.new.dst _ l.k (block_in a.self.bank.now p) (left l.place-iterator.b.rest.now l.place-iterator.a.rest.now) (left t.b.rest.now t.a.rest.now) hit
-          (fits_in a.self.bank.now p a.self.bytes inside.0) room (c.copy_slot.ensures ∙ ap (λ (b : Block). splice l.dst l.k (slot_bytes b)) is) l.invariant.2,
+          (fits_in bank p c.as_bytes-bank.ensures.1 inside.0) room ((rw c.as_bytes-bank.ensures.0 at c.copy_slot.ensures) ∙ ap (λ (b : Block). splice l.dst l.k (slot_bytes b)) is) l.invariant.2,
     )
 
 pub loop-place-preserved : goal.loop-place-preserved
@@ -68,6 +68,11 @@ returns-clause-value c =
     let s = l.place-iterator in
     let none = pick-end c.args.h s.b.rest.now c.args.self.bank.now s.a.rest.now (either_empty_from_Zip s c.next.new.self c.next.result c.in-None.is c.next.ensures.steps) in
     omega (arith, ap length none, l.invariant.1)
+
+pub returns-clause-fit : goal.returns-clause-fit
+returns-clause-fit c =
+    let p = c.args.self in
+    pick-fit c.args.h p.at.now (blocks_at p.bank.now p.places.now) (fit_at p.bank.now p.places.now c.as_bytes-bank.ensures.1 p.inside)
 
 pub returns-clause-dst_after : goal.returns-clause-dst_after
 returns-clause-dst_after c =
