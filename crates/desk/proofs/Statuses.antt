@@ -20,7 +20,7 @@ status-most status.Full = omega arith
 
 pub names-ok : (x : ℕ) (r : Result Status NoStatus) → NamesStatus x r → is_ok r ≡ leb x most_status
 names-ok x (Ok s) h = sym (le-leb x most_status (omega (arith, h, status-most s)))
-names-ok x (Err e) h = sym (lt-leb x most_status h)
+names-ok x (Err e) h = sym (lt-leb x most_status h.0)
 
 -- a status compared is its number compared
 pub is-open : (s : Status) → sameb the_type s status.Open ≡ eqb (status_number s) open_status

@@ -21,6 +21,6 @@ status_number status.Forged = forged_status
 status_number status.Worn = worn_status
 status_number status.Full = full_status
 
--- a number names a status, or none
+-- a number names a status, or none, and is then what the error holds
 abbrev pub NamesStatus : ℕ → Result Status NoStatus → Type 0
-NamesStatus x r = MatchResult r (λ s. status_number s ≡ x) (λ e. most_status < x)
+NamesStatus x r = MatchResult r (λ s. status_number s ≡ x) (λ e. (most_status < x) × (e.0 ≡ x))

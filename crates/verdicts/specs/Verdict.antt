@@ -49,9 +49,9 @@ is_verdict x = leb 1 x && leb x 4
 abbrev pub verdict_of : ℕ → Verdict
 verdict_of x = cond (eqb x 1) Pass (cond (eqb x 2) Fail (cond (eqb x 3) Skipped Error))
 
--- a number names a verdict, or none
+-- a number names a verdict, or none, and is then what the error holds
 abbrev pub Names : ℕ → Result Verdict NoVerdict → Type 0
-Names x r = MatchResult r (λ v. (is_verdict x ≡ true) × (v ≡ verdict_of x)) (λ e. is_verdict x ≡ false)
+Names x r = MatchResult r (λ v. (is_verdict x ≡ true) × (v ≡ verdict_of x)) (λ e. (is_verdict x ≡ false) × (e.0 ≡ x))
 
 -- ---- reading: the name is what stands before the first zero, and zeros follow it
 

@@ -55,7 +55,7 @@ pub fn record_cell(chapter: u8, record: &[u8]) -> Cell
     if entry.chapter == chapter {
         verdict_cell(entry.verdict)
     } else {
-        Cell::Bad
+        Cell::Bad // of another chapter
     }
 }
 

@@ -10,7 +10,7 @@ use Rattle.verdicts.proofs.GoodRecord.{reading-good, reading-bad, no-verdict, le
 use Rattle.verdicts.proofs.read_whole.Goals as goal
 
 pub returns-in_default : goal.returns-in_default
-returns-in_default c = sym (reading-bad _ (no-verdict _ c.in_default.ensures))
+returns-in_default c = sym (reading-bad _ (no-verdict _ c.in_default.ensures.0))
 
 pub returns-then-not-good : goal.returns-then-not-good
 returns-then-not-good c =

@@ -11,7 +11,7 @@ use Rattle.exports.proofs.books.bawnaroy_verdict_make.Goals as goal
 pub returns-in_default : goal.returns-in_default
 returns-in_default c =
     let a = c.args in
-    not_made a.verdict (of_none a.«record».now a.verdict a.chapter a.year a.name.now c.in_default.ensures)
+    not_made a.verdict (of_none a.«record».now a.verdict a.chapter a.year a.name.now c.in_default.ensures.0)
 
 pub returns-then-not-make : goal.returns-then-not-make
 returns-then-not-make c =
