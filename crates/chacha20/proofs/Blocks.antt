@@ -1,5 +1,5 @@
 -- The laws of `block` and `blocks`: lengths, and a run of blocks in two. Assumes nothing.
-use Rattle.std.proofs.Common.{◌≡◌, ℕ, zero, suc, ◌+◌, ◌-◌, ◌*◌, ◌/◌, ◌%◌, ◌^◌, ◌≤◌, List, [], ◌∷◌, ◌++◌, length, drop, sym, refl, ap, ◌∙◌, append_assoc, add-zero, add-suc, suc-add, zero-add, arith, length-append, length-set, drop_at}
+use Rattle.std.proofs.Common.{◌≡◌, ℕ, zero, suc, ◌+◌, ◌-◌, ◌*◌, ◌/◌, ◌%◌, ◌^◌, ◌<◌, ◌≤◌, List, [], ◌∷◌, ◌++◌, length, drop, sym, refl, ap, ◌∙◌, append_assoc, append-nil, add-zero, add-suc, suc-add, zero-add, arith, length-append, length-set, drop_at}
 use Rattle.words.specs.Numbers.{number}
 use Rattle.chacha20.specs.ChaCha.{add32, pick, put, quarter, quarter_at, columns, diagonals, inner, rounds, initial, zipped, block, blocks}
 use Rattle.chacha20.specs.declared.Quad.{Quad}
@@ -64,6 +64,11 @@ module _ (key nonce : List ℕ) where
   -- the run that follows the first c blocks
   pub blocks-drop : (n c d : ℕ) → drop (c * 64) (blocks key nonce n (c + d)) ≡ blocks key nonce (n + c) d
   blocks-drop n c d = rw (blocks-add n c d) (drop_at (blocks key nonce n c) (blocks key nonce (n + c) d) (c * 64) (length-blocks n c))
+
+  -- one block is a run of one
+  pub blocks-one : (n : ℕ) → n < 2 ^ 32 → blocks key nonce n 1 ≡ block key nonce n
+  unfolding blocks
+  blocks-one n h = let e : n % 2 ^ 32 ≡ n = omega arith in rw e (append-nil (block key nonce n))
 
   -- from byte `at` on a run of c blocks and five goes on with five from n on, where n is the number of the block there
   pub blocks_from : (at n c : ℕ) → at % 64 ≡ 0 → at / 64 ≤ c → n % 2 ^ 32 ≡ at / 64 % 2 ^ 32

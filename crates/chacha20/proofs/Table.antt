@@ -1,5 +1,5 @@
 -- The laws of `table`. Assumes nothing.
-use Rattle.std.proofs.Common.{◌≡◌, ℕ, zero, suc, ◌<◌, List, [], ◌∷◌, ◌++◌, length, get_or, refl, ap, arith}
+use Rattle.std.proofs.Common.{◌≡◌, ℕ, zero, suc, ◌<◌, List, [], ◌∷◌, ◌++◌, length, get_or, refl, ap, le_of_suc-le-suc, not-suc-le-zero, arith}
 use Rattle.chacha20.specs.ChaCha.{zipped}
 use Rattle.chacha20.specs.Lanes.{table}
 
@@ -7,6 +7,12 @@ pub length-table : (n : ℕ) (f : ℕ → ℕ) → length (table n f) ≡ n
 unfolding table
 length-table zero f = refl
 length-table (suc n) f = ap suc (length-table n (λ i. f (suc i)))
+
+pub table_at : (n : ℕ) (f : ℕ → ℕ) (i : ℕ) → i < n → get_or (table n f) i 0 ≡ f i
+unfolding table
+table_at zero f i h = absurd (not-suc-le-zero h)
+table_at (suc n) f zero h = refl
+table_at (suc n) f (suc i) h = table_at n (λ i. f (suc i)) i (le_of_suc-le-suc h)
 
 pub table-ext : (n : ℕ) (f g : ℕ → ℕ) → ((i : ℕ) → i < n → f i ≡ g i) → table n f ≡ table n g
 unfolding table

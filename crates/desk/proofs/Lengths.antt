@@ -1,9 +1,9 @@
 -- Lengths and offsets in a desk: numbers are small, slots follow each other, and the contents are written pair by pair. Assumes nothing.
-use Prim.Native.Nat.{ℕ, ◌+◌, ◌-◌, ◌≤◌, ◌<◌}
+use Prim.Native.Nat.{ℕ, ◌+◌, ◌*◌, ◌-◌, ◌≤◌, ◌<◌}
 use mathlib.Core.Path.{◌≡◌, ap, ◌∙◌}
 use mathlib.Core.List.{List, ◌++◌}
 use native.Mathlib.Omega.{arith}
-use native.Mathlib.Nat.{mul-le-mul_left, mul-suc}
+use native.Mathlib.Nat.{mul-le-mul, mul-le-mul_left, mul-suc}
 use lib.ListN.{length, drop, length-append}
 use Rattle.words.specs.Bytes.{part, splice}
 use Rattle.words.proofs.Splice.{part-tail, splice-next}
@@ -11,7 +11,7 @@ use Rattle.words.proofs.Numbers.{length-bytes_of}
 use Rattle.sizes.specs.Sizes.{contents_len}
 use Rattle.slots.specs.Slots.{slot_by}
 use Rattle.desk.specs.declared.Shape.{Shape}
-use Rattle.desk.specs.Layout.{slot_at, pair, pair_len, contents}
+use Rattle.desk.specs.Layout.{Small, slot_at, pair, pair_len, contents}
 
 -- what `&xs[a..]` is
 -- for words
@@ -19,6 +19,9 @@ pub tail-part : (xs : List ℕ) (a : ℕ) → part xs a (length xs - a) ≡ drop
 tail-part xs a = part-tail xs a (length xs - a) (omega arith)
 
 -- ---- slots of body (e)
+
+pub slots-most : (h : Shape) (i : ℕ) → Small h → i ≤ 255 → slot_by h.r * i ≤ 17340
+slots-most h i k l = mul-le-mul {n₁ = slot_by h.r} {m₁ = i} {n₂ = 68} {m₂ = 255} (omega arith) l
 
 pub slot-le : (h : Shape) (i n : ℕ) → i ≤ n → slot_at h i ≤ slot_at h n
 slot-le h i n l = omega (arith, mul-le-mul_left (slot_by h.r) l)

@@ -1,8 +1,9 @@
--- The hash value after some blocks: of a list with more behind it, and of two lists one after the other.
+-- The hash value after some blocks: of a list with more behind it, of two lists one after the other, and after one block more.
 -- Assumes nothing.
-use Rattle.std.proofs.Common.{◌≡◌, ℕ, zero, suc, ◌+◌, ◌*◌, ◌≤◌, List, ◌++◌, length, take, drop, sym, refl, ap, ◌∙◌, add-zero, add-suc, mul-suc, mul-add, arith, take-append-drop}
+use Rattle.std.proofs.Common.{◌≡◌, ℕ, zero, suc, ◌+◌, ◌*◌, ◌≤◌, List, ◌++◌, length, take, drop, sym, refl, ap, ◌∙◌, add-zero, add-suc, mul-suc, mul-add, add-one, arith, take-append-drop}
+use Rattle.words.specs.Bytes.{part}
 use Rattle.words.proofs.Splice.{part_left, part_right}
-use Rattle.digest_sha2.specs.Sha2.{Sha2, after}
+use Rattle.digest_sha2.specs.Sha2.{Sha2, compress, after}
 
 pub after-prefix : (v : Sha2) (s : List ℕ) (n : ℕ) (xs ys : List ℕ) → v.block * n ≤ length xs → after v s n (xs ++ ys) ≡ after v s n xs
 unfolding after
@@ -21,3 +22,7 @@ after-append v s m zero xs ys h = rw add-zero (after-prefix v s m xs ys (omega a
 after-append v s m (suc n) xs ys h =
     let e : v.block * (m + n) ≡ length xs + v.block * n = mul-add v.block m n ∙ ap (λ (k : ℕ). k + v.block * n) (sym h) in
     rw (add-suc, after-append v s m n xs ys h, part_right xs ys (v.block * n) (v.block * (m + n)) v.block e)
+
+pub after_more : (v : Sha2) (s₀ s r bs : List ℕ) (i : ℕ) → s ≡ after v s₀ i bs → r ≡ compress v s (part bs (v.block * i) v.block) → r ≡ after v s₀ (i + 1) bs
+unfolding after
+after_more v s₀ s r bs i p q = rw (add-one, ← p) q

@@ -6,7 +6,7 @@ use mathlib.Core.List.{List, [], ◌∷◌, ◌++◌, append_assoc, append-nil}
 use native.Mathlib.Omega.{arith}
 use native.Mathlib.Numerals.{add-one}
 use lib.ListN.{length, drop, length-append, length-drop}
-use lib.Seq.{get_or-drop}
+use lib.Seq.{drop-drop, get_or-drop}
 use lib.Dec.{eqb}
 use Rattle.std.proofs.lemmas.List.{take_all}
 use Rattle.words.specs.Bytes.{part, splice}
@@ -19,8 +19,8 @@ use Rattle.sizes.specs.Sizes.{record_len, slot_len, counter_len, slots_len, leaf
 use Rattle.sizes.proofs.Lengths.{level-fits}
 use Rattle.bags.specs.Bags.{those}
 use Rattle.bags.proofs.Those.{those-append}
-use Rattle.slots.specs.Slots.{Block, is_used, block_by, blocks_by, blocks_of, slots_bytes, AllFit, Bytes}
-use Rattle.slots.proofs.Blocks.{blocks-fit, blocks-part, fit_append, length-slots, slots-append}
+use Rattle.slots.specs.Slots.{Block, is_used, block_by, blocks_by, blocks_of, slots_bytes, Fits, AllFit, Bytes}
+use Rattle.slots.proofs.Blocks.{block-fits, blocks-fit, blocks-part, fit_append, length-slots, slots-append}
 use Rattle.placing.proofs.Laid.{slot-next}
 use Rattle.gathering.specs.Gathering.{slots_at, used_to, is_other, others}
 
@@ -37,6 +37,24 @@ request-laid bank one two end bytes id leaf h n p q r =
     r ∙ ap (λ (xs : List ℕ). splice xs 4 bytes) (q ∙ ap (λ (xs : List ℕ). splice xs 2 l) p ∙ splice-next bank 0 i l 2 (length-bytes_of 2 id) (omega arith))
     ∙ splice-next bank 0 (i ++ l) bytes 4 m (omega arith)
     ∙ ap (splice bank 0) (append_assoc i l bytes ∙ sym (append-nil (i ++ (l ++ bytes))))
+
+-- ---- slots from place a on: what is left after j of z
+
+abbrev pub left_from : ℕ → ℕ → List ℕ → ℕ → ℕ → List Block
+left_from id z src a j = others id (blocks_of (z - j) (drop (a + slot_len * j) src))
+
+abbrev pub block_from : List ℕ → ℕ → ℕ → Block
+block_from src a j = block_by record_len (drop (a + slot_len * j) src)
+
+pub take-start : (id z : ℕ) (src : List ℕ) (a : ℕ) → left_from id z src a 0 ≡ others id (blocks_of z (drop a src))
+take-start id z src a =
+    let e : z - 0 ≡ z = omega arith in
+    let f : a + slot_len * 0 ≡ a = omega arith in
+    rw (e, f)
+
+pub fits-from : (src : List ℕ) (a j : ℕ) → Bytes src → a + slot_len * j + slot_len ≤ length src → Fits record_len (block_from src a j)
+fits-from src a j b h =
+    block-fits record_len (drop (a + slot_len * j) src) (λ i. rw get_or-drop (b (a + slot_len * j + i))) (omega (arith, length-drop (a + slot_len * j) src))
 
 -- ---- the next of several slots, whose id is x
 

@@ -1,11 +1,13 @@
 -- How counting the spaces goes on by one byte, at the front and at the end. Assumes nothing.
-use Prim.Native.Nat.{ℕ, zero, suc, ◌+◌, ◌≤◌, ◌<◌}
-use mathlib.Core.Path.{◌≡◌, refl}
+use Prim.Native.Nat.{ℕ, zero, suc, ◌+◌, ◌-◌, ◌≤◌, ◌<◌}
+use mathlib.Core.Path.{◌≡◌, refl, sym, ap, ◌∙◌}
 use mathlib.Core.Bool.{not}
 use mathlib.Core.List.{List, [], ◌∷◌}
+use native.Mathlib.Numerals.{add-one}
 use native.Mathlib.Omega.{arith}
 use borrow.Author.Tests.{eq-eqb, ne_eqb, eqb-true, eqb-false, lt-ltb, le-ltb}
-use lib.ListN.{length, get_or}
+use lib.ListN.{length, drop, get_or}
+use lib.Seq.{drop-cons}
 use lib.Dec.{eqb}
 use Rattle.words.proofs.Tests.{below_or, by_cases}
 use Rattle.std.specs.Prelude.{position, unwrap_or}
@@ -14,6 +16,19 @@ use Rattle.text.specs.Text.{space}
 use Rattle.lines.specs.Line.{leading, trimmed}
 
 -- ---- at the front
+
+module _ (xs : List ℕ) (i : ℕ) (h : i < length xs) where
+  pub leading_step : get_or xs i 0 ≡ space → leading (drop i xs) ≡ suc (leading (drop (i + 1) xs))
+  unfolding leading
+  leading_step e = rw (drop-cons xs i 0, eq-eqb (get_or xs i 0) space e, add-one)
+
+  pub leading-stop : (get_or xs i 0 ≡ space → ⊥) → leading (drop i xs) ≡ 0
+  unfolding leading
+  leading-stop e = rw (drop-cons xs i 0, ne_eqb (get_or xs i 0) space e)
+
+pub leading_end : leading [] ≡ 0
+unfolding leading
+leading_end = refl
 
 leading_first : (xs : List ℕ) → position_or_len (λ x. not (eqb x space)) xs ≡ leading xs
 unfolding leading
@@ -34,7 +49,23 @@ leading_position xs =
     rw (leading_first xs)
     (below_or (leading xs) (length xs) (λ h. rw (lt-ltb (leading xs) (length xs) h)) (λ h. rw (le-ltb (leading xs) (length xs) h) (omega (arith, leading-most xs))))
 
--- ---- at the end of the first n bytes
+-- ---- at the end of the first bytes, i or n of them
+
+module _ (xs : List ℕ) (i : ℕ) (h : 0 < i) where
+  last_of : i ≡ suc (i - 1)
+  last_of = omega arith
+
+  pub trimmed-step : get_or xs (i - 1) 0 ≡ space → trimmed i xs ≡ trimmed (i - 1) xs
+  unfolding trimmed
+  trimmed-step e = ap (λ (k : ℕ). trimmed k xs) last_of ∙ rw (eq-eqb (get_or xs (i - 1) 0) space e)
+
+  pub trimmed-stop : (get_or xs (i - 1) 0 ≡ space → ⊥) → trimmed i xs ≡ i
+  unfolding trimmed
+  trimmed-stop e = ap (λ (k : ℕ). trimmed k xs) last_of ∙ rw (ne_eqb (get_or xs (i - 1) 0) space e) (sym last_of)
+
+pub trimmed-end : (xs : List ℕ) → trimmed 0 xs ≡ 0
+unfolding trimmed
+trimmed-end xs = refl
 
 pub trimmed_none : (n : ℕ) (xs : List ℕ) → ((k : ℕ) → k < n → get_or xs k 0 ≡ space) → trimmed n xs ≡ 0
 unfolding trimmed
@@ -51,3 +82,10 @@ trimmed_last (suc n) i xs h e r =
     (λ f.
     let d : i < n = let z = eqb-false i n f in omega arith in
     rw (eq-eqb (get_or xs n 0) space (r n d (omega arith))) (trimmed_last n i xs d e (λ k l m. r k l (omega arith))))
+
+-- ---- a byte that is there does not depend on what stands for one that is not
+
+pub get_d-inside : (xs : List ℕ) (i a b : ℕ) → i < length xs → get_or xs i a ≡ get_or xs i b
+get_d-inside [] i a b h = absurd (omega arith)
+get_d-inside (x ∷ xs) zero a b h = refl
+get_d-inside (x ∷ xs) (suc i) a b h = get_d-inside xs i a b (omega arith)

@@ -1,21 +1,24 @@
 -- What calls find in a text from a place on, as the definitions say it. Assumes nothing.
 use Prim.Native.Nat.{ℕ, ◌+◌, ◌-◌, ◌≤◌, min}
 use mathlib.Core.Path.{◌≡◌, sym, ap, ◌∙◌}
-use mathlib.Core.Bool.{Bool, and-true}
+use mathlib.Core.Bool.{Bool, true, and-true}
 use mathlib.Core.List.{List, [], ◌∷◌}
 use native.Mathlib.Omega.{arith}
-use borrow.Author.Tests.{ne_eqb, lt-ltb, le-ltb}
+use borrow.Author.Tests.{eqb-true, ne_eqb, lt-ltb, le-ltb}
 use lib.ListN.{length, take, drop, get_or}
+use lib.Seq.{drop-drop}
 use lib.Dec.{eqb}
 use lib.Pointwise.{pointwise}
+use Rattle.std.specs.Prelude.{Option}
 use Rattle.std.specs.List.{starts_with}
 use Rattle.std.proofs.lemmas.Cmp.{nat_eq_equiv}
 use Rattle.words.proofs.Tests.{below_or}
 use Rattle.words.specs.Bytes.{part}
 use Rattle.words.proofs.Splice.{length_part, part-tail}
 use Rattle.verdicts.specs.declared.Verdict.{Verdict}
+use Rattle.lines.specs.declared.Directive.{Directive}
 use Rattle.lines.specs.declared.Cut.{Cut}
-use Rattle.lines.specs.Line.{leading, trimmed, cut_of, verdict_by, hyphen_len, front_len, past_space, description_at, description_len, test, test_from}
+use Rattle.lines.specs.Line.{leading, after_spaces, trimmed, directive_word, cut_of, verdict_by, hyphen_len, front_len, past_space, description_at, description_len, test, test_from}
 
 abbrev tail : List ℕ → ℕ → List ℕ
 tail xs a = part xs a (length xs - a)
@@ -26,6 +29,11 @@ tail-is xs a h = part-tail xs a (length xs - a) (omega arith)
 pub tail-length : (xs : List ℕ) (a : ℕ) → a ≤ length xs → length (tail xs a) ≡ length xs - a
 tail-length xs a h = length_part xs a (length xs - a) (omega arith)
 
+-- a first byte that is not zero is there
+pub first-there : (xs : List ℕ) (b : ℕ) → 1 ≤ b → eqb (get_or xs 0 0) b ≡ true → 1 ≤ length xs
+first-there [] b h e = absurd (omega (arith, eqb-true 0 b e))
+first-there (x ∷ xs) b h e = omega arith
+
 -- whether the first byte is b, which is not zero, as the library says it of the one before b's own text and of the one behind it
 pub first-is : (xs : List ℕ) (b : ℕ) → 1 ≤ b → pointwise eqb (take 1 xs) (b ∷ []) ≡ eqb (get_or xs 0 0) b
 first-is [] b h = sym (ne_eqb 0 b (λ e. omega arith))
@@ -34,6 +42,15 @@ first-is (x ∷ xs) b h = and-true (eqb x b)
 pub first-as : (xs : List ℕ) (b : ℕ) → 1 ≤ b → starts_with eqb xs (b ∷ []) ≡ eqb (get_or xs 0 0) b
 first-as [] b h = sym (ne_eqb 0 b (λ e. omega arith))
 first-as (x ∷ xs) b h = and-true (eqb b x) ∙ nat_eq_equiv.symm b x
+
+-- ---- the word of a directive, after the # and its spaces
+
+pub word_at : (xs : List ℕ) (n : ℕ) (d : Option Directive) → 1 ≤ length xs → (n ≡ leading (tail xs 1)) × (n ≤ length (tail xs 1)) → d ≡ directive_word (tail xs (1 + n))
+    → d ≡ directive_word (after_spaces (drop 1 xs))
+word_at xs n d h s w =
+    let p : n ≡ leading (drop 1 xs) = s.0 ∙ ap leading (tail-is xs 1 h) in
+    w ∙ ap directive_word (tail-is xs (1 + n) (omega (arith, s.1, tail-length xs 1 h)) ∙ sym (drop-drop n 1 xs))
+    ∙ ap (λ (k : ℕ). directive_word (drop k (drop 1 xs))) p
 
 -- ---- a description
 

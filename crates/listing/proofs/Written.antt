@@ -1,14 +1,14 @@
 -- What was written: one thing after another, by a writer too, and the digits of a number from the last one on. Assumes nothing.
 use Prim.Native.Nat.{ℕ, zero, suc, ◌+◌, ◌*◌, ◌-◌, ◌/◌, ◌%◌, ◌^◌, ◌≤◌, ◌<◌}
 use mathlib.Core.Path.{◌≡◌, refl, sym, ap, ◌∙◌}
-use mathlib.Core.List.{List, [], ◌∷◌, ◌++◌, append_assoc}
+use mathlib.Core.List.{List, [], ◌∷◌, ◌++◌, append_assoc, append-nil}
 use native.Mathlib.Nat.{pow-suc}
 use native.Mathlib.Numerals.{add-one}
 use native.Mathlib.Omega.{arith}
 use borrow.Author.Tests.{lt-ltb, le-ltb}
 use lib.ListN.{length, drop, set, length-append, length-set}
 use lib.Seq.{drop-set-lt, drop-cons, get_or-set_same}
-use Rattle.words.specs.Bytes.{part}
+use Rattle.words.specs.Bytes.{part, zeros}
 use Rattle.words.proofs.Splice.{splice-next, part-tail}
 use Rattle.std.specs.Borrow.{MutBor}
 use Rattle.text.specs.Fronts.{zero_digit}
@@ -41,6 +41,9 @@ pub record Digits (x : ℕ) (text : List ℕ) (i y : ℕ) : Type 0 where
   pub place : i < most_decimal
   pub low : y < 10 ^ (i + 1)
   pub are : decimal x ≡ digits_up_to (i + 1) y ++ drop (i + 1) text
+
+pub digits-first : (x : ℕ) → x < 10 ^ most_decimal → Digits x (zeros most_decimal) 19 x
+digits-first x h = record { long = refl; place = omega arith; low = h; are = sym (append-nil (decimal x)) }
 
 -- more than one digit is left only where there is room for it
 pub digits-room : (x : ℕ) (text : List ℕ) (i y : ℕ) → Digits x text i y → 9 < y → 1 ≤ i

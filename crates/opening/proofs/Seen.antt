@@ -4,7 +4,7 @@ use mathlib.Core.Bool.{false}
 use mathlib.Core.Path.{◌≡◌, sym, ap, ◌∙◌}
 use mathlib.Core.List.{List, [], ◌∷◌, ◌++◌, append_assoc}
 use native.Mathlib.Omega.{arith}
-use lib.ListN.{length, get_or, set, length-set, get_or-replicate}
+use lib.ListN.{length, get_or, set, drop, length-set, get_or-replicate}
 use lib.Seq.{get_or-set_same, get_or-set_other}
 use lib.Dec.{eqb}
 use borrow.Author.Tests.{ne_eqb, eqb-true, eqb-false}
@@ -14,7 +14,8 @@ use Rattle.words.proofs.Tests.{by_cases}
 use Rattle.sizes.specs.Sizes.{most_ids, slot_len, record_len}
 use Rattle.bags.specs.Bags.{cnt, those}
 use Rattle.bags.proofs.Bags.{cnt-append, cnt-those}
-use Rattle.slots.specs.Slots.{Block, is_used, block_by, blocks_of}
+use Rattle.slots.specs.Slots.{Block, is_used, slot_by, block_by, blocks_by, blocks_of}
+use Rattle.slots.proofs.Blocks.{blocks-append}
 use Rattle.words.specs.Numbers.{number}
 use Rattle.words.proofs.Numbers.{number-drop}
 use Rattle.placing.proofs.Laid.{slot-first, slot-rest, slot-next}
@@ -57,6 +58,19 @@ seen-used seen met b h s =
     seen-ext (set seen b.id 1) (met ++ (b ∷ [])) (met ++ those is_used (b ∷ []))
     (λ id l. omega (arith, cnt-append (is_id id) met (b ∷ []), cnt-append (is_id id) met (those is_used (b ∷ [])), used-counts id l (b ∷ [])))
     (seen-mark seen met b h s)
+
+-- no slot, and one slot more of several
+pub seen_first : (r : ℕ) (xs : List ℕ) → Seen (zeros (suc most_ids)) (blocks_by r 0 xs)
+unfolding blocks_by
+seen_first r xs = seen_none
+
+pub seen_next : (r : ℕ) (xs seen : List ℕ) (i id : ℕ) → id ≡ (block_by r (drop (slot_by r * i) xs)).id → id ≤ most_ids → Seen seen (blocks_by r i xs)
+    → Seen (set seen id 1) (blocks_by r (i + 1) xs)
+unfolding blocks_by
+seen_next r xs seen i id e h s =
+    let b : Block = block_by r (drop (slot_by r * i) xs) in
+    let g : blocks_by r (i + 1) xs ≡ blocks_by r i xs ++ (b ∷ []) = blocks-append r i 1 xs in
+    rw (g, e) (seen-mark seen (blocks_by r i xs) b (omega arith) s)
 
 -- the next of several slots, whose ids are small, after others were met
 module _ (xs slot rest : List ℕ) (cut : xs ≡ slot ++ rest) (long : length slot ≡ slot_len) (n m : ℕ) (one : m + 1 ≡ n) where

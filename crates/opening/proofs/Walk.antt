@@ -1,17 +1,35 @@
 -- The walk over slots: what its turns leave. Assumes nothing.
-use Prim.Native.Nat.{ℕ, ◌+◌, ◌*◌}
+use Prim.Native.Nat.{ℕ, suc, ◌+◌, ◌-◌, ◌*◌, ◌≤◌, ◌<◌}
 use mathlib.Core.Bool.{Bool, true, false, ◌&&◌}
 use mathlib.Core.Path.{◌≡◌, refl, sym, ap, ◌∙◌, subst}
 use mathlib.Core.List.{List, [], ◌∷◌, ◌++◌, append_assoc, append-nil}
+use native.Mathlib.Numerals.{add-one}
 use native.Mathlib.Omega.{arith}
 use lib.ListN.{drop}
+use lib.Seq.{drop-drop}
 use Rattle.words.specs.Numbers.{number}
 use Rattle.words.proofs.Numbers.{number-drop}
 use Rattle.words.proofs.Tests.{by_cases}
 use Rattle.bags.specs.Bags.{those}
-use Rattle.slots.specs.Slots.{Block, is_used, slot_by, block_by}
+use Rattle.slots.specs.Slots.{Block, is_used, slot_by, block_by, blocks_by}
+use Rattle.slots.proofs.Blocks.{slots-suc}
 use Rattle.opening.specs.Walk.{Seen, walk, passes, Looked, Walked}
 use Rattle.opening.proofs.Tests.{no_true}
+
+-- the first slot of the rest, after j of n
+pub rest-cons : (r n j : ℕ) (xs : List ℕ) → j < n
+    → blocks_by r (n - j) (drop (slot_by r * j) xs) ≡ block_by r (drop (slot_by r * j) xs) ∷ blocks_by r (n - (j + 1)) (drop (slot_by r * (j + 1)) xs)
+unfolding blocks_by
+rest-cons r n j xs h =
+    let e : n - j ≡ suc (n - (j + 1)) = omega arith in
+    let f : slot_by r * j + slot_by r ≡ slot_by r * (j + 1) = omega (arith, slots-suc r j, ap (λ (i : ℕ). slot_by r * i) (add-one j)) in
+    let g : slot_by r + slot_by r * j ≡ slot_by r * (j + 1) = omega arith in
+    ap (λ (i : ℕ). blocks_by r i (drop (slot_by r * j) xs)) e
+    ∙ ap (λ (ys : List ℕ). block_by r (drop (slot_by r * j) xs) ∷ blocks_by r (n - (j + 1)) ys) (drop-drop (slot_by r) (slot_by r * j) xs ∙ ap (λ (i : ℕ). drop i xs) f)
+
+pub rest-none : (r n j : ℕ) (xs : List ℕ) → n ≤ j → blocks_by r (n - j) xs ≡ []
+unfolding blocks_by
+rest-none r n j xs h = let e : n - j ≡ 0 = omega arith in rw e
 
 -- its id, and the block that a part shows
 pub slot-id : (r j : ℕ) (xs : List ℕ) → number 2 xs (slot_by r * j) ≡ (block_by r (drop (slot_by r * j) xs)).id

@@ -11,6 +11,7 @@ use borrow.Author.Tests.{eqb-true, eqb-false}
 use Rattle.words.proofs.Tests.{by_cases}
 use Rattle.words.proofs.Splice.{splice-nil}
 use Rattle.sizes.specs.Sizes.{record_len}
+use Rattle.listing.specs.Listing.{Wrote}
 use Rattle.listing.specs.Writer.{Adds}
 use Rattle.listing.specs.declared.writer.Writer.{Writer}
 use Rattle.listing.proofs.Written.{◌then◌}
@@ -22,6 +23,9 @@ use Rattle.printing.specs.Printed.{verdict_text, is_printable, line_room}
 use Rattle.printing.specs.Printing.{entry_text, entries_text}
 
 -- nothing written
+pub wrote_none : (xs : List ℕ) (at : ℕ) → Wrote xs at [] xs at
+wrote_none xs at = record { is = sym (splice-nil xs at); next_is = omega arith }
+
 pub adds_none : (w : Writer) → Adds w [] w
 adds_none w = record { same = refl; room = refl; wrote = record { is = sym (splice-nil w.out.now w.at); next_is = omega arith } }
 

@@ -1,12 +1,12 @@
 -- What stands after the leaf of a line of requests, and a text laid into a record. Assumes nothing.
-use Prim.Native.Nat.{ℕ, ◌-◌, ◌≤◌}
+use Prim.Native.Nat.{ℕ, ◌-◌, ◌≤◌, ◌<◌}
 use mathlib.Core.Path.{◌≡◌, refl, sym, ap, ◌∙◌}
-use mathlib.Core.Bool.{true, not}
+use mathlib.Core.Bool.{true, not, ◌&&◌}
 use mathlib.Core.List.{List, [], ◌∷◌}
 use native.Mathlib.Nat.{zero-add}
 use native.Mathlib.Omega.{arith}
 use borrow.Author.Tests.{le-leb}
-use lib.ListN.{length, take, drop, length-append}
+use lib.ListN.{length, take, drop, get_or, length-append}
 use lib.Dec.{eqb}
 use lib.Pointwise.{pointwise}
 use Rattle.std.specs.List.{list_any}
@@ -17,9 +17,17 @@ use Rattle.desk.specs.declared.Kind.TheVariants.{Write}
 use Rattle.words.proofs.Tests.{and_left}
 use Rattle.text.specs.Text.{space}
 use Rattle.text.proofs.Fronts.{absent-before}
-use Rattle.script.specs.Lines.{rest_good, record_of}
+use Rattle.script.specs.Lines.{text_good, rest_good, record_of}
 
 -- ---- what stands after the leaf
+
+pub rest-empty : (xs : List ℕ) → length xs ≡ 0 → true ≡ rest_good Write xs
+rest-empty [] h = refl
+rest-empty (x ∷ xs) h = absurd (omega arith)
+
+pub rest-text : (xs : List ℕ) → 0 < length xs → rest_good Write xs ≡ (eqb (get_or xs 0 0) space && text_good (drop 1 xs))
+rest-text [] h = absurd (omega arith)
+rest-text (x ∷ xs) h = refl
 
 -- a space, and a text that the library finds no zero in
 pub rest-spaced : (xs text : List ℕ) → pointwise eqb (take 1 xs) (space ∷ []) ≡ true → text ≡ drop 1 xs → length text ≤ record_len

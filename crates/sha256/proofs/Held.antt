@@ -1,7 +1,8 @@
 -- What each step of a `Hasher` keeps: `Grown` for the three kinds of parts and for one part after another, and the end. Assumes nothing.
-use Rattle.std.proofs.Common.{◌≡◌, ℕ, suc, ◌+◌, ◌-◌, ◌*◌, ◌/◌, ◌%◌, ◌^◌, ◌≤◌, List, ◌++◌, length, take, drop, sym, refl, ap, ◌∙◌, subst, append_assoc, add_assoc, arith, length-append, length-drop, take-append-drop, drop_of_length-le, length-take, length-take-le, take_all}
+use Rattle.std.proofs.Common.{◌≡◌, ℕ, suc, ◌+◌, ◌-◌, ◌*◌, ◌/◌, ◌%◌, ◌^◌, ◌<◌, ◌≤◌, List, ◌++◌, length, take, drop, sym, refl, ap, ◌∙◌, subst, append_assoc, add_assoc, arith, length-append, length-drop, take-append-drop, drop_of_length-le, length-take, length-take-le, take_all, take-add}
 use lib.Seq.{drop-append-le}
 use Rattle.words.specs.Bytes.{part, splice}
+use Rattle.words.proofs.Splice.{length_part}
 use Rattle.digest_sha2.specs.Sha2.{after, padding, all_bytes, digest}
 use Rattle.digest_sha2.specs.Sha256.{v256, H256, sha256}
 use Rattle.digest_sha2.proofs.Blocks.{after-prefix, after-take, after-append}
@@ -95,7 +96,7 @@ grown-whole h x n total state z l t s =
 
 -- ---- one part after another
 
-grown-join : (h f r : Hasher) (x y : List ℕ) → Grown h x f → Grown f y r → Grown h (x ++ y) r
+pub grown-join : (h f r : Hasher) (x y : List ℕ) → Grown h x f → Grown f y r → Grown h (x ++ y) r
 grown-join h f r x y p q =
     record {
       holds = λ bs held. rw append_assoc at (q.holds (bs ++ x) (p.holds bs held));
@@ -112,6 +113,32 @@ module _ (h f : Hasher) (p x y : List ℕ) (a : ℕ) (front : x ≡ take a p) (r
   grown-all none =
       let n : length (drop a p) ≡ 0 = rw rest at none in
       subst (λ (l : List ℕ). Grown h l f) (front ∙ take_all a p (omega (arith, length-drop a p))) first
+
+-- the three parts of a part: the part is theirs together; the middle one begins a block and is whole blocks; the last one fits a block
+module _ (p : List ℕ) (a n : ℕ) (h : a ≤ length p) (k : n ≡ (length p - a) / 64) where
+  abbrev e : ℕ
+  e = a + 64 * n
+
+  pub middle-long : length (part p a (e - a)) ≡ 64 * n
+  middle-long = let m : e - a ≡ 64 * n = omega arith in length_part p a (e - a) (omega arith) ∙ m
+
+  pub rest-fits : (t u : ℕ) → t % 64 ≡ 0 → u ≡ (t + length (part p a (e - a))) % 2 ^ 64 → u % 64 + length (part p e (length p - e)) ≤ 64
+  rest-fits t u z c =
+      let m : u ≡ (t + 64 * n) % 2 ^ 64 = rw middle-long at c in
+      rw (length_part p e (length p - e) (omega arith)) (omega arith)
+
+  pub grown-three : (x y w r : Hasher) → Grown x (take a p) y → Grown y (part p a (e - a)) w → Grown w (part p e (length p - e)) r → Grown x p r
+  grown-three x y w r f g i =
+      let s : a + (e - a) ≡ e = omega arith in
+      let t : take e p ≡ take a p ++ part p a (e - a) = subst (λ (j : ℕ). take j p ≡ take a p ++ part p a (e - a)) s (take-add a (e - a) p) in
+      let m : part p e (length p - e) ≡ drop e p = take_all (length p - e) (drop e p) (simp length-drop (omega arith)) in
+      subst (λ (l : List ℕ). Grown x l r) (rw (← t, m) (take-append-drop e p))
+      (grown-join x w r (take a p ++ part p a (e - a)) (part p e (length p - e)) (grown-join x y w (take a p) (part p a (e - a)) f g) i)
+
+pub aligned : (p : List ℕ) (a total t : ℕ) → a ≤ length p → (a ≡ length p → ⊥) → (a < length p → (total + a) % 64 ≡ 0) → t ≡ (total + length (take a p)) % 2 ^ 64 → t % 64 ≡ 0
+aligned p a total t h ne z e =
+    let l : a < length p = omega arith in
+    wrap-64 t (total + length (take a p)) e ∙ rw (length-take-le a p h) (z l)
 
 -- ---- the end: the bytes left over and the padding are whole blocks
 

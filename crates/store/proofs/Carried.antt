@@ -10,6 +10,16 @@ use Rattle.store.specs.declared.Finished.TheVariants as finished
 use Rattle.store.specs.Steps.{answer_for, buffer_for, mark_for}
 use Rattle.store.specs.Carried.{is_found, is_there}
 
+pub mark-there : (kind : Kind) (marked : Bool) → is_there kind marked ≡ true → 1 ≡ mark_for kind marked
+mark-there Read true h = refl
+mark-there Read false h = cc
+mark-there Write marked h = refl
+
+pub mark-none : (kind : Kind) (marked : Bool) → is_there kind marked ≡ false → 0 ≡ mark_for kind marked
+mark-none Read true h = cc
+mark-none Read false h = refl
+mark-none Write marked h = cc
+
 pub mark-is : (kind : Kind) (marked : Bool) → from_bool (is_there kind marked) ≡ mark_for kind marked
 mark-is Read true = refl
 mark-is Read false = refl

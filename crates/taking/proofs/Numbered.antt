@@ -14,7 +14,7 @@ use Rattle.sizes.specs.Sizes.{record_len}
 use Rattle.verdicts.specs.Verdict.{record_of, can_be_read, MakeResult, making, make_of}
 use Rattle.lines.specs.declared.Test.{Test}
 use Rattle.lines.specs.Line.{description_in}
-use Rattle.sheets.specs.Sheet.{entry_start}
+use Rattle.sheets.specs.Sheet.{entry_start, is_record}
 use Rattle.taking.specs.declared.Trouble.TheVariants.{BadPlan}
 use Rattle.std.specs.Prelude.{Ok, Err}
 use Rattle.taking.specs.Taking.{stepped, is_bad_number, take_test}
@@ -29,6 +29,14 @@ within n k h =
     record { from_one = leb-true _ _ (and_left _ _ b); to_last = leb-true _ _ (and_right (leb 1 k) _ b) }
 
 module _ (n : ℕ) (sheet : List ℕ) (k : ℕ) where
+  -- none of 1 to n
+  pub outside : not (leb 1 k && leb k n) ≡ true → true ≡ is_bad_number n sheet k
+  outside h = rw h
+
+  -- one of them: by the entry in its place
+  pub by_place : not (leb 1 k && leb k n) ≡ false → {r : Bool} (m : ℕ) → m ≡ record_len → r ≡ is_record (part sheet (entry_start (k - 1)) m) → r ≡ is_bad_number n sheet k
+  by_place h m e g = g ∙ rw (h, e)
+
   pub good-within : is_bad_number n sheet k ≡ false → Within n k
   good-within h = within n k (left (not (leb 1 k && leb k n)) _ h)
     where

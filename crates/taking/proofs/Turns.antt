@@ -63,7 +63,7 @@ module _ (chapter year n : ℕ) (text : List ℕ) where
           }
 
       -- the line's trouble is the text's
-      line_refused : {t : Trouble} → s ≡ Err t → took (Err (in_line t (count + 1))) after ≡ whole
+      pub line_refused : {t : Trouble} → s ≡ Err t → took (Err (in_line t (count + 1))) after ≡ whole
       line_refused q = ap (λ (x : Result Bool Trouble). onward (stepped x after)) (sym q) ∙ came
 
     -- and with the line's number it is what the text comes to

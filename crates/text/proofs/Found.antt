@@ -4,7 +4,7 @@ use mathlib.Core.Path.{◌≡◌, refl, sym, ap, subst, ◌∙◌}
 use mathlib.Core.Bool.{Bool, true, false, cond}
 use mathlib.Core.List.{List, [], ◌∷◌}
 use native.Mathlib.Omega.{arith}
-use borrow.Author.Tests.{eq-eqb, eqb-true}
+use borrow.Author.Tests.{eq-eqb, ne_eqb, eqb-true}
 use lib.ListN.{length, take, drop, length-take, length-drop}
 use lib.Seq.{drop-drop}
 use lib.Dec.{eqb}
@@ -99,3 +99,6 @@ module _ (n : ℕ) (xs : List ℕ) (at k : ℕ) (f : Found n xs at k) where
 
   pub nothing_left : at + k ≡ length xs → eqb rest_length 0 ≡ true
   nothing_left e = let z : rest_length ≡ 0 = omega (arith, rest-length) in eq-eqb rest_length 0 z
+
+  pub something-left : (at + k ≡ length xs → ⊥) → eqb rest_length 0 ≡ false
+  something-left e = ne_eqb rest_length 0 (λ (z : rest_length ≡ 0). e (omega (arith, rest-length, f.fits)))

@@ -4,7 +4,7 @@ use Prim.Native.Nat.{ℕ, suc, ◌+◌, ◌*◌, ◌-◌, ◌^◌, ◌≤◌, �
 use mathlib.Core.Path.{◌≡◌, refl, sym, ap, ◌∙◌}
 use mathlib.Core.Bool.{Bool, true, false, cond, not, ◌&&◌, and-false}
 use mathlib.Core.List.{List, [], ◌∷◌, ◌++◌, append_assoc, append-nil}
-use native.Mathlib.Nat.{pow-suc, zero-add}
+use native.Mathlib.Nat.{pow-suc, pow-le-pow_right, lt_of_lt_of_le, sub-zero, zero-add}
 use native.Mathlib.Numerals.{add-one}
 use native.Mathlib.Omega.{arith}
 use borrow.Author.Tests.{eq-eqb, ne_eqb, leb-true, lt-leb, lt-ltb, le-ltb}
@@ -20,6 +20,19 @@ use Rattle.text.specs.Text.{space}
 use Rattle.text.specs.Fronts.{before, is_digit, digits, value, zero_digit, nine_digit, most_digits, most_number, number_by, number_of, spaced, values, values_len, taken_of}
 
 -- ---- the bytes before the first b
+
+module _ (b : ℕ) (xs : List ℕ) (i : ℕ) (h : i < length xs) where
+  pub before-step : (get_or xs i 0 ≡ b → ⊥) → length (before b (drop i xs)) ≡ suc (length (before b (drop (i + 1) xs)))
+  unfolding before
+  before-step e = rw (drop-cons xs i 0, ne_eqb (get_or xs i 0) b e, add-one)
+
+  pub before-stop : get_or xs i 0 ≡ b → length (before b (drop i xs)) ≡ 0
+  unfolding before
+  before-stop e = rw (drop-cons xs i 0, eq-eqb (get_or xs i 0) b e)
+
+pub before-end : (b : ℕ) → length (before b []) ≡ 0
+unfolding before
+before-end b = refl
 
 before_first : (b : ℕ) (xs : List ℕ) → position_or_len (λ x. eqb x b) xs ≡ length (before b xs)
 unfolding before
@@ -75,6 +88,9 @@ digit-high x e = leb-true _ _ (and_right (leb zero_digit x) _ e)
 pub digit-more : (i v x : ℕ) → v < 10 ^ i → is_digit x ≡ true → v * 10 + (x - zero_digit) < 10 ^ (i + 1)
 digit-more i v x h e = let k = digit-high x e in rw (add-one, pow-suc) (omega arith)
 
+pub few-digits : (i v : ℕ) → i ≤ most_digits → v < 10 ^ i → v < 10000
+few-digits i v h k = lt_of_lt_of_le k (pow-le-pow_right {n = 10} (omega arith) {i = i} {j = most_digits} h)
+
 -- a number's digits, as far as they are read: i of them, of value v
 pub record Read (xs : List ℕ) (i v : ℕ) : Type 0 where
   pub inside : i ≤ length xs
@@ -82,6 +98,9 @@ pub record Read (xs : List ℕ) (i v : ℕ) : Type 0 where
   pub low : v < 10 ^ i
   pub count : length (digits xs) ≡ i + length (digits (drop i xs))
   pub worth : value 0 (digits xs) ≡ value v (digits (drop i xs))
+
+pub read_none : (xs : List ℕ) → Read xs 0 0
+read_none xs = record { inside = omega arith; few = omega arith; low = omega arith; count = omega arith; worth = refl }
 
 -- one digit more
 pub read_more : (xs : List ℕ) (i v : ℕ) → Read xs i v → i < length xs → i < most_digits → is_digit (get_or xs i 0) ≡ true
@@ -120,6 +139,10 @@ length_digits (x ∷ xs) =
 
 -- ---- numbers in a row
 
+pub spaced-empty : (xs : List ℕ) → length xs ≡ 0 → None ≡ spaced xs
+spaced-empty [] h = refl
+spaced-empty (x ∷ xs) h = absurd (omega arith)
+
 -- a number that is there has the value and the digits that were counted
 pub is-values : (k w : ℕ) (x : Number) → number_by k w ≡ Some x → (leb 1 k && leb k most_digits && leb w most_number ≡ true) × (w ≡ x.value) × (k ≡ x.len)
 is-values k w x e = by (leb 1 k && leb k most_digits && leb w most_number) e
@@ -146,6 +169,17 @@ pub record Got (xs out₀ out : List ℕ) (at i : ℕ) : Type 0 where
   pub vals : values (length out₀) xs ≡ take i out ++ values (length out₀ - i) (drop at xs)
   pub len : values_len (length out₀) xs ≡ at + values_len (length out₀ - i) (drop at xs)
   pub rest : drop i out ≡ drop i out₀
+
+pub got-none : (xs out : List ℕ) → Got xs out out 0 0
+got-none xs out =
+    record {
+      inside = omega arith;
+      some = omega arith;
+      long = refl;
+      vals = rw sub-zero;
+      len = rw sub-zero (omega arith);
+      rest = refl;
+    }
 
 module _ (xs out₀ out : List ℕ) (at i : ℕ) (g : Got xs out₀ out at i) where
   left : i < length out₀ → length out₀ - i ≡ suc (length out₀ - (i + 1))

@@ -1,17 +1,32 @@
--- Reading in pieces: a line that was read whole stays what it is whatever follows, and the lines that
+-- Reading in pieces: the text goes to the window's front unchanged, a line that was read whole stays what it is whatever follows, and the lines that
 -- are handed out one by one are those of the script. Assumes nothing.
 use Prim.Native.Nat.{ℕ, zero, suc, ◌+◌, ◌≤◌, ◌<◌}
-use mathlib.Core.Path.{◌≡◌, refl, ap, ◌∙◌}
+use mathlib.Core.Path.{◌≡◌, refl, sym, ap, ◌∙◌}
 use mathlib.Core.List.{List, [], ◌∷◌, ◌++◌}
+use native.Mathlib.Nat.{zero-add}
 use native.Mathlib.Numerals.{add-one}
 use native.Mathlib.Omega.{arith}
-use lib.ListN.{length, drop, length-append, length-drop, drop_of_length-le}
+use lib.ListN.{length, take, drop, get_or, set, length-append, length-drop, drop_of_length-le}
 use lib.Dec.{eqb}
-use lib.Seq.{drop-append-le}
+use lib.Seq.{length-take-le, drop-append-le}
+use Rattle.words.specs.Bytes.{part, splice}
+use Rattle.words.proofs.Splice.{splice-turn, get_d-splice-after, get_d_part, length_part}
 use Rattle.words.proofs.Tests.{by_cases}
 use Rattle.text.specs.Text.{line_feed}
 use Rattle.text.specs.Fronts.{before}
 use Rattle.window.specs.Pieces.{line_len, lines_up_to, lines_of}
+
+-- ---- one byte more at the window's front
+
+pub shift-turn : (xs now : List ℕ) (from n i : ℕ) → i < n → from + n ≤ length xs → now ≡ splice xs 0 (take i (part xs from n))
+    → set now i (get_or now (from + i) 0) ≡ splice xs 0 (take (i + 1) (part xs from n))
+shift-turn xs now from n i h k e =
+    let l : length (part xs from n) ≡ n = length_part xs from n k in
+    let m : length (take i (part xs from n)) ≡ i = length-take-le i (part xs from n) (omega arith) in
+    let v : get_or now (from + i) 0 ≡ get_or (part xs from n) i 0 =
+    ap (λ (x : List ℕ). get_or x (from + i) 0) e ∙ get_d-splice-after xs 0 (take i (part xs from n)) (from + i) (omega arith) (omega arith) ∙ sym (get_d_part xs from n i h) in
+    ap (λ (j : ℕ). set now j (get_or now (from + i) 0)) (sym (zero-add i))
+    ∙ splice-turn xs 0 i (get_or now (from + i) 0) (part xs from n) now (omega arith) (omega arith) v e
 
 -- ---- a line that ends in the text that was read is the same in any longer text
 
